@@ -2,6 +2,7 @@ pub mod Replay
 pub mod Seats
 pub mod Entries
 pub mod Noted
+pub mod Rooms
 pub mod Marked
 pub mod Inside
 pub mod Earned

@@ -1,5 +1,5 @@
 // What changes a volume between requests, and what it comes to in the journal.
-ghost use Rattle.std.specs.Prelude.{◌≡◌, ◌++◌, ◌∷◌, [], IfErr, IfOk, OnErr, false};
+ghost use Rattle.std.specs.Prelude.{◌≡◌, ◌++◌, ◌∷◌, [], IfErr, IfOk, OnErr, OnOk, false};
 ghost use Rattle.volume.specs.DoesFinishMerge.{DoesFinishMerge};
 ghost use Rattle.volume.specs.DoesMessage.{DoesMessage};
 ghost use Rattle.volume.specs.DoesResumeMerge.{DoesResumeMerge};
@@ -47,7 +47,7 @@ impl<B: Layered> Audit<B> {
     #[tactic(auto, using(volume::proofs::Between::not_finished))]
     pub fn finish_merge(&mut self) -> Result<StoreDev<B>, Refusal>
         ensures noted { IfOk result (λ _. self.new ≡ record self.old { volume = self.new.volume; entries = self.old.entries ++ Finished ∷ [] }) }
-        ensures room { IfOk result (λ _. is_full_by 1 self.old ≡ false) }
+        ensures room { OnOk result (is_full_by 1 self.old ≡ false) }
         ensures does { DoesFinishMerge B.may_hold B.contents B.layers B.size result self.old.volume self.new.volume }
         ensures err { IfErr result (λ refusal. IsUnchanged (is_full_by 1 self.old) (finish_refusal self.old.volume) refusal × (self.new ≡ self.old)) }
     {

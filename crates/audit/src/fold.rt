@@ -9,6 +9,7 @@ ghost use Rattle.sector.specs.Bytes.{with_sectors};
 ghost use Rattle.audit.specs.Books.{shown_in_base, shown_in, state_in};
 ghost use Rattle.audit.specs.Inside.{AllInside, IsInside, attached_count};
 ghost use Rattle.audit.specs.Replay.{AllLawful, IsLawful, after, plain_in, put, replay};
+ghost use Rattle.audit.specs.Rooms.{KeepsMany, KeepsRoom};
 
 use crate::array::Array;
 use crate::entry::{Answered, Base, Entry, Saved};
@@ -49,8 +50,8 @@ fn put_in(saved: &mut Saved, first: Sector, bytes: &[u8])
 /// Puts sectors into the array of the snapshot with this number, if there is one.
 fn put_saved(saved: &mut Vec<Saved>, number: SnapId, first: Sector, bytes: &[u8])
     ensures put { (array : List ℕ) → saved_under number (map shown_in saved.old.items) ≡ Some (Live array) → 512 * first + length bytes.now ≤ length array → map shown_in saved.new.items ≡ with_saved number (Live (with_sectors array first bytes.now)) (map shown_in saved.old.items) }
-    ensures len { vec_len saved.new ≡ vec_len saved.old }
-    ensures capacity { vec_capacity saved.new ≡ vec_capacity saved.old }
+    ensures len { KeepsMany saved.old saved.new }
+    ensures capacity { KeepsRoom saved.old saved.new }
 {
     let Some(k) = find(saved.as_slice(), number) else {
         return;
@@ -70,8 +71,8 @@ fn spoil_one(saved: &mut Saved, number: SnapId)
 /// Spoils the snapshots with this number.
 fn spoil(saved: &mut Vec<Saved>, number: SnapId)
     ensures spoilt { map shown_in saved.new.items ≡ map (spoiled_entry (number ∷ [])) (map shown_in saved.old.items) }
-    ensures len { vec_len saved.new ≡ vec_len saved.old }
-    ensures capacity { vec_capacity saved.new ≡ vec_capacity saved.old }
+    ensures len { KeepsMany saved.old saved.new }
+    ensures capacity { KeepsRoom saved.old saved.new }
 {
     for k in 0..saved.len() {
         spoil_one(&mut saved[k], number);
@@ -88,8 +89,8 @@ fn mark_one(saved: &mut Saved)
 /// Marks the first snapshot with this number, if there is one: its store overflowed.
 fn mark(saved: &mut Vec<Saved>, number: SnapId)
     ensures marked { map shown_in saved.new.items ≡ marked_in number (map shown_in saved.old.items) }
-    ensures len { vec_len saved.new ≡ vec_len saved.old }
-    ensures capacity { vec_capacity saved.new ≡ vec_capacity saved.old }
+    ensures len { KeepsMany saved.old saved.new }
+    ensures capacity { KeepsRoom saved.old saved.new }
 {
     let Some(k) = find(saved.as_slice(), number) else {
         return;
@@ -102,7 +103,7 @@ fn take_out(saved: &mut Vec<Saved>, number: SnapId) -> Option<Saved>
     ensures left { map shown_in saved.new.items ≡ without_saved number (map shown_in saved.old.items) }
     ensures found { (array : List ℕ) → saved_under number (map shown_in saved.old.items) ≡ Some (Live array) → (s : Saved) × (result ≡ Some s) × (state_in s.array ≡ Live array) }
     ensures len { vec_len saved.new ≤ vec_len saved.old }
-    ensures capacity { vec_capacity saved.new ≡ vec_capacity saved.old }
+    ensures capacity { KeepsRoom saved.old saved.new }
 {
     let Some(k) = find(saved.as_slice(), number) else {
         return None;
@@ -113,8 +114,8 @@ fn take_out(saved: &mut Vec<Saved>, number: SnapId) -> Option<Saved>
 /// What a write does to the base.
 fn write(base: &mut Base, dev: Dev, first: Sector, bytes: &[u8])
     ensures put { (array : List ℕ) → Shows (plain_in (shown_in_base base.old)) dev array → 512 * first + length bytes.now ≤ length array → shown_in_base base.new ≡ put dev first bytes.now (shown_in_base base.old) }
-    ensures len { vec_len base.new.saved ≡ vec_len base.old.saved }
-    ensures capacity { vec_capacity base.new.saved ≡ vec_capacity base.old.saved }
+    ensures len { KeepsMany base.old.saved base.new.saved }
+    ensures capacity { KeepsRoom base.old.saved base.new.saved }
 {
     match dev {
         Dev::Origin => base.origin.put(first, bytes),
@@ -125,8 +126,8 @@ fn write(base: &mut Base, dev: Dev, first: Sector, bytes: &[u8])
 /// What the entry of a request does to the base: a write that was done, and nothing else, does something.
 fn serve(base: &mut Base, answered: &Answered)
     ensures after { IsLawful (shown_in_base base.old) (IsAnswered answered.now) → IsInside (shown_in_base base.old) (IsAnswered answered.now) → shown_in_base base.new ≡ after (shown_in_base base.old) (IsAnswered answered.now) }
-    ensures len { vec_len base.new.saved ≡ vec_len base.old.saved }
-    ensures capacity { vec_capacity base.new.saved ≡ vec_capacity base.old.saved }
+    ensures len { KeepsMany base.old.saved base.new.saved }
+    ensures capacity { KeepsRoom base.old.saved base.new.saved }
 {
     match &answered.request.op {
         Op::Read => {}
@@ -147,7 +148,7 @@ fn serve(base: &mut Base, answered: &Answered)
 fn begin(base: &mut Base, number: SnapId)
     ensures after { IsLawful (shown_in_base base.old) (Begun number) → shown_in_base base.new ≡ after (shown_in_base base.old) (Begun number) }
     ensures len { vec_len base.new.saved ≤ vec_len base.old.saved }
-    ensures capacity { vec_capacity base.new.saved ≡ vec_capacity base.old.saved }
+    ensures capacity { KeepsRoom base.old.saved base.new.saved }
 {
     let Some(saved) = take_out(&mut base.saved, number) else {
         return;
@@ -164,7 +165,7 @@ fn fold(base: &mut Base, entry: Entry)
     requires room { vec_len base.old.saved + attached_count (entry ∷ []) ≤ vec_capacity base.old.saved }
     ensures after { IsLawful (shown_in_base base.old) entry → IsInside (shown_in_base base.old) entry → shown_in_base base.new ≡ after (shown_in_base base.old) entry }
     ensures len { vec_len base.new.saved ≤ vec_len base.old.saved + attached_count (entry ∷ []) }
-    ensures capacity { vec_capacity base.new.saved ≡ vec_capacity base.old.saved }
+    ensures capacity { KeepsRoom base.old.saved base.new.saved }
 {
     match entry {
         Entry::Answered(answered) => serve(base, &answered),
@@ -189,7 +190,7 @@ pub(crate) fn fold_all(base: &mut Base, entries: &mut Vec<Entry>)
     requires room { vec_len base.old.saved + attached_count entries.old.items ≤ vec_capacity base.old.saved }
     ensures none { entries.new.items ≡ [] }
     ensures base { AllLawful (shown_in_base base.old) entries.old.items → AllInside (shown_in_base base.old) entries.old.items → shown_in_base base.new ≡ replay (shown_in_base base.old) entries.old.items }
-    ensures capacity { vec_capacity entries.new ≡ vec_capacity entries.old }
+    ensures capacity { KeepsRoom entries.old entries.new }
 {
     entries.reverse();
     while let Some(entry) = entries.pop() {

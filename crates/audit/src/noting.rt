@@ -4,6 +4,7 @@ ghost use Rattle.plain_machine.specs.Plain.{Entry as ShownEntry};
 ghost use Rattle.volume.specs.Volumed.{plain_of};
 ghost use Rattle.audit.specs.Marked.{IsMarkNoted};
 ghost use Rattle.audit.specs.Noted.{Noted, is_live, live_count, may_count};
+ghost use Rattle.audit.specs.Rooms.{KeepsRoom};
 
 use crate::entry::Entry;
 use crate::leaving::place_in;
@@ -40,7 +41,7 @@ pub(crate) fn note_spoils<B: Layered>(
     requires lives { length lives.old.items ≡ length volume.now.snaps }
     requires room { vec_len entries.old + live_count lives.old.items ≤ vec_capacity entries.old }
     ensures noted { Noted (length volume.now.snaps) (plain_of B.contents B.layers volume.now).saved lives.old.items lives.new.items entries.old.items entries.new.items }
-    ensures capacity { vec_capacity entries.new ≡ vec_capacity entries.old }
+    ensures capacity { KeepsRoom entries.old entries.new }
 {
     for k in 0..lives.len() {
         if is_lost(volume, lives.as_slice(), k) {
@@ -62,7 +63,7 @@ pub(crate) fn note_mark<B: Layered>(
     requires may { length may.old.items ≡ length lives.now }
     requires room { vec_len entries.old + may_count lives.now may.old.items ≤ vec_capacity entries.old }
     ensures noted { IsMarkNoted dev (plain_of B.contents B.layers volume.now).saved lives.now may.old.items may.new.items entries.old.items entries.new.items }
-    ensures capacity { vec_capacity entries.new ≡ vec_capacity entries.old }
+    ensures capacity { KeepsRoom entries.old entries.new }
 {
     let Dev::Snap(number) = dev else {
         return;

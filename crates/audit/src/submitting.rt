@@ -1,5 +1,5 @@
 // Requests of seats.
-ghost use Rattle.std.specs.Prelude.{◌≡◌, ◌≢◌, ◌*◌, ◌<◌, ℕ, IfErr, IfOk, List, MatchBool, false, length};
+ghost use Rattle.std.specs.Prelude.{◌≡◌, ◌≢◌, ◌*◌, ◌<◌, ℕ, IfErr, IfOk, List, MatchBool, OnOk, false, length};
 ghost use Rattle.plain_machine.specs.declared.request.Op.TheVariants.{Write};
 ghost use Rattle.sector.specs.declared.refusal.Refusal.TheVariants.{Overflow};
 ghost use Rattle.volume.specs.DoesSubmit.{DoesSubmit};
@@ -29,7 +29,7 @@ impl<B: Layered> Audit<B> {
         requires bytes { (bytes : List ℕ) → request.op ≡ Write bytes → length bytes ≡ 512 * request.range.count }
         ensures held { IfOk result (λ number. IsHeld seat number request self.old self.new) }
         ensures base { KeepsBase self.old self.new }
-        ensures room { IfOk result (λ _. is_full_by 1 self.old ≡ false) }
+        ensures room { OnOk result (is_full_by 1 self.old ≡ false) }
         ensures does { DoesSubmit B.contents B.layers B.size request result self.old.volume self.new.volume }
         ensures refused { IfErr result (λ refusal. IsNotSubmitted B.contents B.layers B.size request refusal self.old self.new) }
         ensures noted { IfErr result (λ refusal. IsRefusalNoted request refusal self.old self.new) }

@@ -1,5 +1,5 @@
 // What each line of a block asks of the volumes that are taken out.
-ghost use Rattle.std.specs.Prelude.{◌≡◌, ◌≢◌, ◌+◌, ◌-◌, ◌<◌, ◌||◌, ◌++◌, ◌∷◌, ℕ, [], false, Err, IfErr, IfOk, Ok, OnOk, length, slice_index_or, vec_capacity, vec_len};
+ghost use Rattle.std.specs.Prelude.{◌≡◌, ◌≢◌, ◌+◌, ◌-◌, ◌<◌, ◌||◌, ◌++◌, ◌∷◌, ℕ, [], false, Err, IfErr, IfOk, Ok, OnOk, length, slice_index_or, vec_len};
 ghost use Rattle.sector.specs.declared.refusal.Refusal.TheVariants.{NoMemory};
 ghost use Rattle.chunk.specs.Pieces.{span_of};
 ghost use Rattle.command.specs.Blocks.{AreSeats};
@@ -11,6 +11,7 @@ ghost use Rattle.block_threads.specs.Tasks.{tasks_at};
 ghost use Rattle.block_run.specs.Answering.{AreAsked};
 ghost use Rattle.block_run.specs.Asking.{IsJob, IsMergeAs, IsReadAs, IsTask, IsWriteAs, asked, asks_of, merges_of, place_among, writes_of};
 ghost use Rattle.block_run.specs.Looking.{name_in};
+ghost use Rattle.block_run.specs.Planned.{IsPlanned};
 ghost use Rattle.block_run.specs.Running.{is_in, used_in};
 
 use crate::looking::name_in;
@@ -242,11 +243,7 @@ fn tasks_of(
 
 fn plan_of(alloc: Global, held: &Devices, lines: Vec<SeatLine>) -> Result<BlockPlan, AllocError>
     requires seats { AreSeats lines.items }
-    ensures used { IfOk result (λ plan. plan.used.items ≡ used_in lines.items (table_of held.now)) }
-    ensures eight { IfOk result (λ plan. length plan.tasks.items ≡ 8) }
-    ensures asked { IfOk result (λ plan. AreAsked plan.used.items (table_of held.now) lines.items (tasks_at plan.tasks.items)) }
-    ensures none { IfOk result (λ plan. plan.replies.items ≡ []) }
-    ensures room { IfOk result (λ plan. vec_len lines < vec_capacity plan.replies) }
+    ensures plan { IfOk result (IsPlanned lines held.now) }
 {
     let used = used_in(alloc, held, &lines)?;
     let replies = Vec::with_capacity(alloc, lines.len() + 1)?;
@@ -261,11 +258,7 @@ fn plan_of(alloc: Global, held: &Devices, lines: Vec<SeatLine>) -> Result<BlockP
 /// What the lines of a block ask. The one error is `NoMemory`.
 pub fn planned(alloc: Global, held: &Devices, lines: Vec<SeatLine>) -> Result<BlockPlan, Refusal>
     requires seats { AreSeats lines.items }
-    ensures used { IfOk result (λ plan. plan.used.items ≡ used_in lines.items (table_of held.now)) }
-    ensures eight { IfOk result (λ plan. length plan.tasks.items ≡ 8) }
-    ensures asked { IfOk result (λ plan. AreAsked plan.used.items (table_of held.now) lines.items (tasks_at plan.tasks.items)) }
-    ensures none { IfOk result (λ plan. plan.replies.items ≡ []) }
-    ensures room { IfOk result (λ plan. vec_len lines < vec_capacity plan.replies) }
+    ensures plan { IfOk result (IsPlanned lines held.now) }
     ensures err { IfErr result (λ e. e ≡ NoMemory) }
 {
     match plan_of(alloc, held, lines) {

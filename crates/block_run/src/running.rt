@@ -12,7 +12,7 @@ ghost use Rattle.block_run.specs.Answering.{AreAnswered, AreEnded, AreForTasks, 
 ghost use Rattle.block_run.specs.Looking.{block_refusal};
 ghost use Rattle.block_run.specs.Played.{ArePlayed, Story};
 ghost use Rattle.block_run.specs.Running.{AreRun, IsOfBlock, IsRefusedFor, IsTableRun, all_told, seat_in};
-ghost use Rattle.block_run.specs.Spared.{AreSpared, NoneAdded};
+ghost use Rattle.block_run.specs.Spared.{KeepsStacks, NoneAdded, SparesOnErr};
 ghost use Rattle.block_run.specs.Taking.{IsLeft};
 
 use crate::looking::all_found;
@@ -100,8 +100,8 @@ fn at_once<R: Threads + Wait + Sync>(
     ensures eight { OnOk result (length tasks.new.items ≡ 8) }
     ensures played { OnOk result ((played : List Story) × ArePlayed used.now played (table_of held.old).volumes (table_of held.new).volumes × AreEnded played (tasks_at tasks.old.items) (tasks_at tasks.new.items) × AreForTasks played (tasks_at tasks.old.items)) }
     ensures err { IfErr result (λ e. e ≡ NoMemory) }
-    ensures spared { OnErr result (AreSpared (table_of held.old).volumes (table_of held.new).volumes) }
-    ensures stacks { (table_of held.new).stacks ≡ (table_of held.old).stacks }
+    ensures spared { SparesOnErr result held.old held.new }
+    ensures stacks { KeepsStacks held.old held.new }
     ensures volumes { AreRun used.now (table_of held.old).volumes (table_of held.new).volumes }
 {
     let volumes = held.volumes.len();
@@ -179,8 +179,8 @@ fn run_plan<R: Threads + Wait + Sync>(
     requires room { length (replies_of (tasks_at plan.tasks.items)) < vec_capacity plan.replies }
     ensures told { IfOk result (λ replies. (played : List Story) × ArePlayed plan.used.items played (table_of held.old).volumes (table_of held.new).volumes × AreReplied ticket played (tasks_at plan.tasks.items) replies.items) }
     ensures err { IfErr result (λ e. e ≡ NoMemory) }
-    ensures spared { OnErr result (AreSpared (table_of held.old).volumes (table_of held.new).volumes) }
-    ensures stacks { (table_of held.new).stacks ≡ (table_of held.old).stacks }
+    ensures spared { SparesOnErr result held.old held.new }
+    ensures stacks { KeepsStacks held.old held.new }
     ensures volumes { AreRun plan.used.items (table_of held.old).volumes (table_of held.new).volumes }
 {
     let BlockPlan {
@@ -217,7 +217,7 @@ pub fn run_block<R: Threads + Wait + Sync>(
     ensures answers { IfOk result (λ replies. AreAnswered block (table_of held.old) (table_of held.new) replies.items) }
     ensures runs { IfOk result (λ _. block_refusal block (table_of held.old) ≡ None) }
     ensures refused { IfErr result (λ e. IsRefusedFor e block (table_of held.old)) }
-    ensures spared { OnErr result (AreSpared (table_of held.old).volumes (table_of held.new).volumes) }
+    ensures spared { SparesOnErr result held.old held.new }
     ensures stays { IfSome (block_refusal block (table_of held.old)) (λ _. table_of held.new ≡ table_of held.old) }
     ensures run { IsTableRun block.lines (table_of held.old) (table_of held.new) }
     ensures sound { StaysSound held.old held.new }

@@ -3,6 +3,7 @@ ghost use Rattle.std.specs.Prelude.{◌≡◌, ◌+◌, ◌<◌, ◌≤◌, Bool
 ghost use Rattle.layers.specs.declared.stack.Stack.{Stack as StackShape};
 ghost use Rattle.layers.specs.Stack.{stack_contents, stack_layers};
 ghost use Rattle.audit.specs.Books.{AuditShape};
+ghost use Rattle.audit.specs.Rooms.{KeepsRoom};
 ghost use Rattle.volume.specs.Leaving.{is_quiet_of};
 ghost use Rattle.volume.specs.Volumed.{left_in_all, next_of};
 ghost use Rattle.command_rules.specs.State.{Volume};
@@ -30,7 +31,7 @@ fn take_out(volume: NamedVolume, audits: &mut Vec<Audit<Stack>>) -> Slot
     requires room { vec_len audits.old < vec_capacity audits.old }
     ensures slot { IsSlot true result audits.new.items audits.old.items volume.shown }
     ensures few { vec_len audits.new ≤ vec_len audits.old + 1 }
-    ensures room { vec_capacity audits.new ≡ vec_capacity audits.old }
+    ensures room { KeepsRoom audits.old audits.new }
 {
     let (parts, resting) = volume.into_parts();
     match resting.into_audit() {
@@ -50,7 +51,7 @@ fn take(volume: NamedVolume, is_used: bool, audits: &mut Vec<Audit<Stack>>) -> S
     requires room { vec_len audits.old < vec_capacity audits.old }
     ensures slot { IsSlot is_used result audits.new.items audits.old.items volume.shown }
     ensures few { vec_len audits.new ≤ vec_len audits.old + 1 }
-    ensures room { vec_capacity audits.new ≡ vec_capacity audits.old }
+    ensures room { KeepsRoom audits.old audits.new }
 {
     if is_used && volume.is_quiet() {
         take_out(volume, audits)
@@ -73,7 +74,7 @@ pub fn take_all(
     ensures slots { AreSlots used.now slots.new.items audits.new.items (map (λ v. v.shown) volumes.old.items) }
     ensures empty { volumes.new.items ≡ [] }
     ensures few { vec_len slots.new ≡ vec_len volumes.old }
-    ensures room { vec_capacity volumes.new ≡ vec_capacity volumes.old }
+    ensures room { KeepsRoom volumes.old volumes.new }
 {
     while let Some(volume) = volumes.pop() {
         let is_used = used[volumes.len()];

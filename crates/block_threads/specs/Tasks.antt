@@ -1,5 +1,5 @@
 -- What a seat's tasks answer, by the receipts of its calls. This project's own.
-use Rattle.std.specs.Prelude.{◌≡◌, ◌⊎◌, ◌==◌, ◌&&◌, ◌<◌, ◌≤◌, ℕ, Bool, true, false, List, [], ◌∷◌, Option, None, Some, drop, length, map, slice_index_or, take}
+use Rattle.std.specs.Prelude.{◌≡◌, ◌≢◌, ◌⊎◌, ◌==◌, ◌&&◌, ◌<◌, ◌≤◌, ℕ, Bool, true, false, List, [], ◌∷◌, Option, None, Some, drop, length, map, slice_index_or, take}
 use Rattle.std.specs.List.{list_any, range_with_len}
 use Rattle.std.specs.Global.{Vec}
 use Rattle.chunk.specs.Pieces.{span_of}
@@ -125,3 +125,17 @@ AreTold {B = B} size layers old new number asked tasks =
 -- the tasks at a place; none behind the last
 abbrev pub tasks_at : List (Vec Task) → ℕ → List Task
 tasks_at all i = slice_index_or (map (λ tasks. tasks.items) all) i []
+
+-- there are as many places; and at each but one the tasks stay
+abbrev pub AreAsMany : Vec (Vec Task) → Vec (Vec Task) → Type 0
+AreAsMany old new = length new.items ≡ length old.items
+
+abbrev pub StayBut : ℕ → Vec (Vec Task) → Vec (Vec Task) → Type 0
+StayBut i old new = (k : ℕ) → k ≢ i → tasks_at new.items k ≡ tasks_at old.items k
+
+-- those behind the places of eight seats stay
+abbrev pub StayBehind : Vec (Vec Task) → Vec (Vec Task) → Type 0
+StayBehind old new = (i : ℕ) → 8 ≤ i → tasks_at new.items i ≡ tasks_at old.items i
+
+abbrev pub StayBeside : Vec (Vec Task) → Vec (Vec Task) → Type 0
+StayBeside old new = AreAsMany old new × StayBehind old new

@@ -1,8 +1,8 @@
 // Tasks are given to seats, and taken back from them.
-ghost use Rattle.std.specs.Prelude.{◌≡◌, ◌≢◌, ◌+◌, ◌<◌, ◌≤◌, ℕ, [], length, slice_index_or, vec_capacity};
+ghost use Rattle.std.specs.Prelude.{◌≡◌, ◌+◌, ◌<◌, ◌≤◌, ℕ, [], length, slice_index_or, vec_capacity};
 ghost use Rattle.std.specs.List.{All};
 ghost use Rattle.volume_threads.specs.Rigs.{AreNewSeats, SeatShape};
-ghost use Rattle.block_threads.specs.Tasks.{IsEnded, IsNew, MayMerge, denied_of, pieces_at, tasks_at};
+ghost use Rattle.block_threads.specs.Tasks.{AreAsMany, IsEnded, IsNew, MayMerge, StayBehind, StayBut, denied_of, pieces_at, tasks_at};
 
 use crate::plan::Plan;
 use crate::seat_run::SeatRun;
@@ -15,8 +15,8 @@ use volume_threads::Seat;
 /// Takes the tasks at a place; none where there is no such place.
 fn take_tasks(alloc: Global, tasks: &mut Vec<Vec<Task>>, i: usize) -> Vec<Task>
     ensures taken { result.items ≡ tasks_at tasks.old.items i }
-    ensures many { length tasks.new.items ≡ length tasks.old.items }
-    ensures others { (k : ℕ) → k ≢ i → tasks_at tasks.new.items k ≡ tasks_at tasks.old.items k }
+    ensures many { AreAsMany tasks.old tasks.new }
+    ensures others { StayBut i tasks.old tasks.new }
 {
     if i >= tasks.len() {
         return Vec::new(alloc);
@@ -27,8 +27,8 @@ fn take_tasks(alloc: Global, tasks: &mut Vec<Vec<Task>>, i: usize) -> Vec<Task>
 /// Puts tasks at their place, where there is one.
 fn put_tasks(tasks: &mut Vec<Vec<Task>>, i: usize, list: Vec<Task>)
     ensures put { i < length tasks.old.items → tasks_at tasks.new.items i ≡ list.items }
-    ensures many { length tasks.new.items ≡ length tasks.old.items }
-    ensures others { (k : ℕ) → k ≢ i → tasks_at tasks.new.items k ≡ tasks_at tasks.old.items k }
+    ensures many { AreAsMany tasks.old tasks.new }
+    ensures others { StayBut i tasks.old tasks.new }
 {
     if i < tasks.len() {
         tasks[i] = list;
@@ -46,8 +46,8 @@ pub(crate) fn begin_all<J: Plan>(
     requires plan { (i : ℕ) → J.tasks (i + 1) ≡ tasks_at tasks.old.items i }
     requires asked { (i : ℕ) → i < 8 → All (MayMerge J.merges) (tasks_at tasks.old.items i) }
     requires room { (runs.old.items ≡ []) × (8 ≤ vec_capacity runs.old) }
-    ensures many { length tasks.new.items ≡ length tasks.old.items }
-    ensures others { (i : ℕ) → 8 ≤ i → tasks_at tasks.new.items i ≡ tasks_at tasks.old.items i }
+    ensures many { AreAsMany tasks.old tasks.new }
+    ensures others { StayBehind tasks.old tasks.new }
     ensures unbegun { All (λ run. run.done ≡ 0) runs.new.items }
     ensures eight { length runs.new.items ≡ 8 }
 {
@@ -78,12 +78,12 @@ pub(crate) fn end_all<J: Plan, R: Wait>(
 )
     requires eight { length runs.items ≡ 8 }
     requires room { (seats.old.items ≡ []) × (8 ≤ vec_capacity seats.old) }
-    ensures many { (length tasks.new.items ≡ length tasks.old.items) × (length seats.new.items ≡ 8) }
+    ensures many { AreAsMany tasks.old tasks.new × (length seats.new.items ≡ 8) }
     ensures ended { (i : ℕ) (d : SeatShape) → i < 8 → i < length tasks.old.items → IsEnded (denied_of J.start J.fixed) (pieces_at J.fixed) (J.tasks (i + 1)) (tasks_at tasks.new.items i) (i + 1) (slice_index_or seats.new.items i d) }
     ensures numbers { (i : ℕ) (d : SeatShape) → i < 8 → (slice_index_or seats.new.items i d).number ≡ i + 1 }
     ensures unbegun { All (λ run. run.done ≡ 0) runs.items → (i : ℕ) (d : SeatShape) → i < 8 → IsNew (slice_index_or seats.new.items i d) }
     ensures kept { All (λ run. run.done ≡ 0) runs.items → (i : ℕ) → i < 8 → i < length tasks.old.items → tasks_at tasks.new.items i ≡ J.tasks (i + 1) }
-    ensures others { (i : ℕ) → 8 ≤ i → tasks_at tasks.new.items i ≡ tasks_at tasks.old.items i }
+    ensures others { StayBehind tasks.old tasks.new }
 {
     let mut runs = runs;
     for i in 0..SEATS {

@@ -16,7 +16,7 @@ pub struct Hold {
 }
 
 impl Hold {
-    /// Holds the ticket of this count, from 1; none where there is none.
+    /// Holds the ticket of this count, from 1; with `None` it holds no ticket.
     pub fn new(ticket: Option<u32>) -> Hold {
         Hold {
             ticket: ticket.map(u64::from),

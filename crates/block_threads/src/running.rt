@@ -1,12 +1,12 @@
 // Seats and workers have threads.
-ghost use Rattle.std.specs.Prelude.{◌≡◌, ◌+◌, ◌<◌, ◌≤◌, ℕ, [], false, length, slice_index_or, IfErr, IfOk, MatchResult};
+ghost use Rattle.std.specs.Prelude.{◌≡◌, ◌+◌, ◌<◌, ℕ, [], false, length, slice_index_or, IfErr, IfOk, MatchResult};
 ghost use Rattle.std.specs.List.{All};
 ghost use denote.Param.Send.{IsSend, IsSync};
 ghost use Rattle.sector.specs.declared.refusal.Refusal.TheVariants.{NoMemory};
 ghost use Rattle.audit.specs.Books.{AuditShape};
 ghost use Rattle.volume_threads.specs.Rigs.{IsRoomOf};
 ghost use Rattle.block_threads.specs.Left.{AllAddAskedFor, AreLeft, NothingRan};
-ghost use Rattle.block_threads.specs.Tasks.{AreTold, merges_among, tasks_at};
+ghost use Rattle.block_threads.specs.Tasks.{AreTold, StayBeside, merges_among, tasks_at};
 
 use crate::giving::{begin_all, end_all};
 use crate::hold::{Hold, HoldGate};
@@ -179,7 +179,7 @@ where
     ensures spared { IfErr result (λ e. NothingRan audits.items e.1.items (tasks_at tasks.old.items) (tasks_at tasks.new.items)) }
     ensures told { IfOk result (λ after. (i : ℕ) → i < 8 → i < length tasks.old.items → AreTold B.size B.layers audits.items after.items (i + 1) (tasks_at tasks.old.items i) (tasks_at tasks.new.items i)) }
     ensures asked { MatchResult result (λ after. AllAddAskedFor (tasks_at tasks.old.items) audits.items after.items) (λ e. AllAddAskedFor (tasks_at tasks.old.items) audits.items e.1.items) }
-    ensures others { (length tasks.new.items ≡ length tasks.old.items) × ((i : ℕ) → 8 ≤ i → tasks_at tasks.new.items i ≡ tasks_at tasks.old.items i) }
+    ensures others { StayBeside tasks.old tasks.new }
 {
     let volumes = audits.len();
     let Ok(mut runs) = Vec::with_capacity(alloc, SEATS) else {
@@ -234,7 +234,7 @@ where
     ensures spared { IfErr result (λ e. NothingRan audits.items e.1.items (tasks_at tasks.old.items) (tasks_at tasks.new.items)) }
     ensures told { IfOk result (λ after. (i : ℕ) → i < 8 → i < length tasks.old.items → AreTold B.size B.layers audits.items after.items (i + 1) (tasks_at tasks.old.items i) (tasks_at tasks.new.items i)) }
     ensures asked { MatchResult result (λ after. AllAddAskedFor (tasks_at tasks.old.items) audits.items after.items) (λ e. AllAddAskedFor (tasks_at tasks.old.items) audits.items e.1.items) }
-    ensures others { (length tasks.new.items ≡ length tasks.old.items) × ((i : ℕ) → 8 ≤ i → tasks_at tasks.new.items i ≡ tasks_at tasks.old.items i) }
+    ensures others { StayBeside tasks.old tasks.new }
 {
     let Ok(opened) = Opened::new(alloc, audits.len()) else {
         return Err((Refusal::NoMemory, audits));

@@ -1,5 +1,6 @@
 // What a snapshot shows is read from any byte on.
 ghost use Rattle.std.specs.Prelude.{◌≡◌, ℕ, ◌+◌, ◌*◌, ◌^◌, ◌<◌, ◌≤◌, List, length, IfSome, OnErr, OnOk, Some, None};
+ghost use Rattle.image.specs.Reads.{MayNoMore};
 ghost use Rattle.cow_image.specs.Sorted.{IsRisingBy, old_of};
 ghost use Rattle.cow_image.specs.Fails.{PlaceFails, ShownFails};
 ghost use Rattle.cow_image.specs.Runs.{IsRun};
@@ -29,8 +30,8 @@ fn show_run<O: Image, C: Image>(
     ensures fails { OnErr result (PlaceFails (O.may_fail origin.old) (C.may_fail cow.old) chunk number inside (length out.old) run.place) }
     ensures origin { O.bytes origin.new ≡ O.bytes origin.old }
     ensures cow { C.bytes cow.new ≡ C.bytes cow.old }
-    ensures calm { (k n : ℕ) → O.may_fail origin.new k n → O.may_fail origin.old k n }
-    ensures calm_cow { (k n : ℕ) → C.may_fail cow.new k n → C.may_fail cow.old k n }
+    ensures calm { MayNoMore O.may_fail origin.old origin.new }
+    ensures calm_cow { MayNoMore C.may_fail cow.old cow.new }
 {
     let bytes = 512 * chunk as u64;
     match run.place {
@@ -83,8 +84,8 @@ pub fn show_range<O: Image, C: Image>(
     ensures fails { OnErr result (ShownFails (O.may_fail origin.old) (C.may_fail cow.old) chunk pairs.now at (length out.old)) }
     ensures origin { O.bytes origin.new ≡ O.bytes origin.old }
     ensures cow { C.bytes cow.new ≡ C.bytes cow.old }
-    ensures calm { (k n : ℕ) → O.may_fail origin.new k n → O.may_fail origin.old k n }
-    ensures calm_cow { (k n : ℕ) → C.may_fail cow.new k n → C.may_fail cow.old k n }
+    ensures calm { MayNoMore O.may_fail origin.old origin.new }
+    ensures calm_cow { MayNoMore C.may_fail cow.old cow.new }
 {
     let bytes = 512 * chunk as u64;
     let mut done = 0;

@@ -1,5 +1,6 @@
 // The sectors of an image that can't be read.
-ghost use Rattle.std.specs.Prelude.{◌≡◌, ℕ, ◌+◌, ◌*◌, ◌<◌, ◌≤◌, length, IfOk, OnOk};
+ghost use Rattle.std.specs.Prelude.{◌≡◌, ◌+◌, ◌*◌, ◌<◌, ◌≤◌, length, IfOk, OnOk};
+ghost use Rattle.image.specs.Reads.{MayNoMore};
 ghost use Rattle.cow_salvage.specs.Unread.{AreUnread, AddUnread, Stand};
 
 use crate::Span;
@@ -60,8 +61,8 @@ fn try_piece<I: Image>(
     requires room { length out.old ≡ 512 * count }
     ensures each { OnOk result (Stand first spans.old.items → AddUnread (I.may_fail image.old) (I.may_give image.old) first spans.old.items (first + count) spans.new.items) }
     ensures bytes { I.bytes image.new ≡ I.bytes image.old }
-    ensures calm { (k n : ℕ) → I.may_fail image.new k n → I.may_fail image.old k n }
-    ensures steady { (k n : ℕ) → I.may_give image.new k n → I.may_give image.old k n }
+    ensures calm { MayNoMore I.may_fail image.old image.new }
+    ensures steady { MayNoMore I.may_give image.old image.new }
 {
     match image.read_at(512 * first, out) {
         Ok(()) => Ok(()),
@@ -82,8 +83,8 @@ fn try_sectors<I: Image>(
     requires { first + count ≤ 68_719_476_736 }
     ensures each { OnOk result (Stand first spans.old.items → AddUnread (I.may_fail image.old) (I.may_give image.old) first spans.old.items (first + count) spans.new.items) }
     ensures bytes { I.bytes image.new ≡ I.bytes image.old }
-    ensures calm { (k n : ℕ) → I.may_fail image.new k n → I.may_fail image.old k n }
-    ensures steady { (k n : ℕ) → I.may_give image.new k n → I.may_give image.old k n }
+    ensures calm { MayNoMore I.may_fail image.old image.new }
+    ensures steady { MayNoMore I.may_give image.old image.new }
 {
     for sector in first..first + count {
         try_sector(image, sector, spans)?;
@@ -96,8 +97,8 @@ fn try_sector<I: Image>(image: &mut I, sector: u64, spans: &mut Vec<Span>) -> Re
     requires { sector < 68_719_476_736 }
     ensures each { OnOk result (Stand sector spans.old.items → AddUnread (I.may_fail image.old) (I.may_give image.old) sector spans.old.items (sector + 1) spans.new.items) }
     ensures bytes { I.bytes image.new ≡ I.bytes image.old }
-    ensures calm { (k n : ℕ) → I.may_fail image.new k n → I.may_fail image.old k n }
-    ensures steady { (k n : ℕ) → I.may_give image.new k n → I.may_give image.old k n }
+    ensures calm { MayNoMore I.may_fail image.old image.new }
+    ensures steady { MayNoMore I.may_give image.old image.new }
 {
     let mut room = [0u8; 512];
     match image.read_at(512 * sector, room.as_mut_slice()) {

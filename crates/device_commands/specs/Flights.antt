@@ -1,4 +1,5 @@
 -- What commands do to the volume that they are asked of, whatever is in flight in it: that of its volume of events.
+use Rattle.std.specs.Global.{Vec}
 use Rattle.std.specs.Prelude.{◌≡◌, ◌≢◌, ℕ, Bool, true, false, List, [], Option, Some, None, Result, Ok, Err, slice_index_or}
 use Rattle.sector.specs.declared.refusal.Refusal.{Refusal}
 use Rattle.sector.specs.declared.refusal.Refusal.TheVariants.{Invalid, Overflow}
@@ -14,9 +15,12 @@ use Rattle.command_rules.specs.declared.place.Place.{Place}
 use Rattle.command_rules.specs.declared.place.Place.TheVariants.{Free, In}
 use Rattle.command_rules.specs.State.{Volume, Table}
 use Rattle.command_rules.specs.Places.{place_of, found, volume_at}
-use Rattle.command_rules.specs.Events.{numbered, snapshot_named}
+use Rattle.command_rules.specs.Events.{is_merge_event, numbered, snapshot_named}
 use Rattle.command_rules.specs.Sectors.{Asked, IsAtRole}
 use Rattle.device_list.specs.Flights.{IsFlushServed, IsFlushedAtRest, IsNotDue, IsNotStarted, IsReadAtRest, IsReadServed, IsStarted, IsStepped, IsWriteServed, IsWrittenAtRest}
+use Rattle.device_list.specs.Tables.{StaysSound, table_of}
+use Rattle.device_list.specs.declared.held.Devices.{Devices}
+use Rattle.device_commands.specs.Ruled.{is_quiet_in}
 
 -- the number of the snapshot at a place of a volume
 abbrev pub number_in : ℕ → Result Volume Refusal → ℕ
@@ -95,3 +99,11 @@ IsDoneFor name holds old new = IsAtRole (λ role. holds) old new (found (place_o
 -- an event was done in that volume, with this outcome
 abbrev pub IsEventDoneFor : List ℕ → Step → Outcome → Table → Table → Type 0
 IsEventDoneFor name event outcome old new = IsDoneFor name (IsStepped event outcome) old new
+
+-- Where nothing is in flight in the volume at a place, no reply is told of a request that was.
+abbrev pub TellsNoneAt : ℕ → Devices → Vec Replied → Vec Replied → Type 0
+TellsNoneAt v held before after = is_quiet_in (volume_at v (table_of held)) ≡ true → after.items ≡ before.items
+
+-- where an event is none of a merge, what was sound stays so
+abbrev pub StaysSoundBy : EventWords → Devices → Devices → Type 0
+StaysSoundBy event old new = is_merge_event event ≡ false → StaysSound old new

@@ -9,6 +9,8 @@ use Rattle.volume_commands.specs.Ordered.{IsOrdered}
 use Rattle.command_rules.specs.State.{Volume, Table, merged_in}
 use Rattle.command_rules.specs.Places.{place_of, volume_at}
 use Rattle.command_rules.specs.Sound.{is_sound_volume}
+use Rattle.device_list.specs.Tables.{table_of}
+use Rattle.device_list.specs.declared.held.Devices.{Devices}
 
 -- Whatever is in flight, each snapshot has its name, and a number above those before it. Where no device drops writes and nothing
 -- is left to do, the stores of those that are live, and that of a merge, are in order.
@@ -30,6 +32,9 @@ IsInOrderAt table (Some (In v role)) = IsInOrderIn (volume_at v table)
 -- and the device of a name
 abbrev pub IsInOrderFor : List ℕ → Table → Type 0
 IsInOrderFor name table = IsInOrderAt table (place_of name table)
+
+abbrev pub IsOrderedFor : List ℕ → Devices → Type 0
+IsOrderedFor name held = IsInOrderFor name (table_of held)
 
 -- if there is a name
 abbrev pub IsLookedAt : Table → Option (List ℕ) → Type 0

@@ -14,10 +14,10 @@ ghost use Rattle.command_rules.specs.declared.place.Role.TheVariants.{Merging, O
 ghost use Rattle.device_list.specs.Flights.{IsSettledBy, IsStepped};
 ghost use Rattle.device_list.specs.Tables.{StaysNamed, StaysSound, table_of};
 ghost use Rattle.device_commands.specs.Asked.{IsFullAt, IsFullFor};
-ghost use Rattle.device_commands.specs.Devices.{Flies, KeepsNamesAt, KeepsOthers, NeedsOrigin};
-ghost use Rattle.device_commands.specs.Flights.{IsDoneFor, IsNotDueIn, IsNotStartedAs, IsStartedAs, event_of, is_about_merging, number_about};
+ghost use Rattle.device_commands.specs.Devices.{ChangesOne, Flies, IsOfVolume, KeepsNamesAt, MayAsk, NeedsOrigin, StaysOnErr};
+ghost use Rattle.device_commands.specs.Flights.{IsDoneFor, IsNotDueIn, IsNotStartedAs, IsStartedAs, StaysSoundBy, TellsNoneAt, event_of, is_about_merging, number_about};
 ghost use Rattle.device_commands.specs.Merging.{settled_at};
-ghost use Rattle.device_commands.specs.Order.{IsInOrderFor};
+ghost use Rattle.device_commands.specs.Order.{IsOrderedFor};
 ghost use Rattle.device_commands.specs.Ruled.{is_alone_in, is_quiet_in, is_sound_in, rests_at, volume_for};
 ghost use Rattle.volume.specs.EventKinds.{is_of_merge};
 
@@ -45,7 +45,7 @@ fn start_at(
     requires some { 0 < count }
     requires few { count ≤ 2048 }
     requires bytes { (b : List ℕ) → op ≡ Write b → length b ≡ 512 * count }
-    ensures asks { IfErr (asked_at (In v role) first count (table_of held.old)) (λ e. result ≡ Err e) }
+    ensures asks { MayAsk v role first count held.old result }
     ensures stays { IfErr (asked_at (In v role) first count (table_of held.old)) (λ _. table_of held.new ≡ table_of held.old) }
     ensures started { IfOk result (λ number. IfOk (asked_at (In v role) first count (table_of held.old)) (λ asks. IsInVolume (IsStartedAs op number asks) v (table_of held.old) (table_of held.new) (volume_at v (table_of held.old)))) }
     ensures refused { IfErr result (λ e. IfOk (asked_at (In v role) first count (table_of held.old)) (λ asks. IsInVolume (IsNotStartedAs op e asks) v (table_of held.old) (table_of held.new) (volume_at v (table_of held.old)))) }
@@ -74,7 +74,7 @@ pub fn start_read(
     ensures started { IfOk result (λ number. IfOk (read_asked name.now first count (table_of held.old)) (λ asks. IsDoneFor name.now (IsStartedAs Read number asks) (table_of held.old) (table_of held.new))) }
     ensures refused { IfErr result (λ e. IfOk (read_asked name.now first count (table_of held.old)) (λ asks. IsDoneFor name.now (IsNotStartedAs Read e asks) (table_of held.old) (table_of held.new))) }
     ensures flies { OnOk result (Flies name.now (table_of held.old) (table_of held.new)) }
-    ensures one { KeepsOthers name.now (table_of held.old) (table_of held.new) }
+    ensures one { ChangesOne name.now held.old held.new }
     ensures named { StaysNamed held.old held.new }
     ensures full { IsFullFor name.now result held.old held.new }
 {
@@ -100,7 +100,7 @@ pub fn start_write(
     ensures started { IfOk result (λ number. IfOk (write_asked name.now first bytes (table_of held.old)) (λ asks. IsDoneFor name.now (IsStartedAs (Write bytes) number asks) (table_of held.old) (table_of held.new))) }
     ensures refused { IfErr result (λ e. IfOk (write_asked name.now first bytes (table_of held.old)) (λ asks. IsDoneFor name.now (IsNotStartedAs (Write bytes) e asks) (table_of held.old) (table_of held.new))) }
     ensures flies { OnOk result (Flies name.now (table_of held.old) (table_of held.new)) }
-    ensures one { KeepsOthers name.now (table_of held.old) (table_of held.new) }
+    ensures one { ChangesOne name.now held.old held.new }
     ensures named { StaysNamed held.old held.new }
     ensures full { IsFullFor name.now result held.old held.new }
 {
@@ -186,7 +186,7 @@ fn numbered(event: &EventWords, number: SnapId) -> plain_machine::Event
 fn about(held: &Devices, place: Place, snapshot: &Name) -> Result<(usize, SnapId), Refusal>
     requires { IsPlaceIn place (table_of held.now) }
     ensures value { MatchResult result (λ at. event_at place (Some snapshot.now) (table_of held.now) ≡ Ok at.0) (λ e. none_due (event_at place (Some snapshot.now) (table_of held.now)) ≡ e) }
-    ensures within { IfOk result (λ at. at.0 < length (table_of held.now).volumes) }
+    ensures within { IsOfVolume result held.now }
     ensures place { IfOk result (λ at. place ≡ In at.0 Origin) }
     ensures number { IfOk result (λ at. at.1 ≡ number_about (Some snapshot.now) (table_of held.now)) }
     ensures other { IfOk result (λ at. is_about_merging (Some snapshot.now) (table_of held.now) ≡ false) }
@@ -209,7 +209,7 @@ fn about(held: &Devices, place: Place, snapshot: &Name) -> Result<(usize, SnapId
 fn asked(held: &Devices, place: Place, event: &EventWords) -> Result<(usize, SnapId), Refusal>
     requires { IsPlaceIn place (table_of held.now) }
     ensures value { MatchResult result (λ at. event_at place (snapshot_named event.now) (table_of held.now) ≡ Ok at.0) (λ e. none_due (event_at place (snapshot_named event.now) (table_of held.now)) ≡ e) }
-    ensures within { IfOk result (λ at. at.0 < length (table_of held.now).volumes) }
+    ensures within { IsOfVolume result held.now }
     ensures place { IfOk result (λ at. place ≡ In at.0 Origin) }
     ensures number { IfOk result (λ at. at.1 ≡ number_about (snapshot_named event.now) (table_of held.now)) }
     ensures other { IfOk result (λ at. is_about_merging (snapshot_named event.now) (table_of held.now) ≡ false) }
@@ -246,9 +246,9 @@ pub fn step_device(held: &mut Devices, name: &Name, event: &EventWords) -> Resul
     ensures merging { is_about_merging (snapshot_named event.now) (table_of held.old) ≡ true → is_ok result ≡ false }
     ensures stepped { IfOk result (λ outcome. IsDoneFor name.now (IsStepped (event_of event.now (table_of held.old)) outcome) (table_of held.old) (table_of held.new)) }
     ensures due { OnErr result (IfOk (event_asked name.now event.now (table_of held.old)) (λ v. is_about_merging (snapshot_named event.now) (table_of held.old) ≡ false → (not (is_merge_event event.now) && is_quiet_in (volume_at v (table_of held.old))) ≡ false → IsNotDueIn (event_of event.now (table_of held.old)) (volume_at v (table_of held.old)))) }
-    ensures err { OnErr result (table_of held.new ≡ table_of held.old) }
-    ensures one { KeepsOthers name.now (table_of held.old) (table_of held.new) }
-    ensures sound { is_merge_event event.now ≡ false → is_sound (table_of held.old) ≡ true → is_sound (table_of held.new) ≡ true }
+    ensures err { StaysOnErr result held.old held.new }
+    ensures one { ChangesOne name.now held.old held.new }
+    ensures sound { StaysSoundBy event.now held.old held.new }
     ensures named { StaysNamed held.old held.new }
 {
     let place = find_device(held, name)?;
@@ -263,7 +263,7 @@ pub fn step_device(held: &mut Devices, name: &Name, event: &EventWords) -> Resul
 fn settle_at(held: &mut Devices, v: usize, ended: &mut Vec<Replied>) -> Result<(), Refusal>
     requires { v < length (table_of held.old).volumes }
     ensures done { is_sound_in (volume_at v (table_of held.old)) ≡ true → Changes result (table_of held.old) (table_of held.new) (settled_at v (table_of held.old)) }
-    ensures told { is_quiet_in (volume_at v (table_of held.old)) ≡ true → ended.new.items ≡ ended.old.items }
+    ensures told { TellsNoneAt v held.old ended.old ended.new }
     ensures idle { is_quiet_in (volume_at v (table_of held.old)) ≡ true → is_ok result ≡ true }
     ensures alone { is_alone_in (volume_at v (table_of held.old)) ≡ true → table_of held.new ≡ table_of held.old }
     ensures drained { OnOk result (IsInVolume (IsSettledBy ended.old.items ended.new.items) v (table_of held.old) (table_of held.new) (volume_at v (table_of held.old))) }
@@ -297,8 +297,8 @@ pub fn settle_device(
     ensures err { OnErr result ((table_of held.new ≡ table_of held.old) × (ended.new.items ≡ ended.old.items)) }
     ensures refused { IfErr result (λ e. IfOk (origin_by name.now (table_of held.old)) (λ _. e ≡ NoMemory)) }
     ensures rested { OnOk result (rested name.now (table_of held.old) (table_of held.new) ≡ Ok tt) }
-    ensures one { KeepsOthers name.now (table_of held.old) (table_of held.new) }
-    ensures ordered { IsInOrderFor name.now (table_of held.old) }
+    ensures one { ChangesOne name.now held.old held.new }
+    ensures ordered { IsOrderedFor name.now held.old }
     ensures sound { StaysSound held.old held.new }
     ensures named { StaysNamed held.old held.new }
 {

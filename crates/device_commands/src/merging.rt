@@ -1,5 +1,5 @@
 // A snapshot is merged into its origin: the merge begins, goes on after a fault, and is finished.
-ghost use Rattle.std.specs.Prelude.{◌≡◌, ◌≢◌, ◌<◌, length, true, false, Err, IfErr, IfOk, OnErr, OnOk};
+ghost use Rattle.std.specs.Prelude.{◌≡◌, ◌≢◌, ◌<◌, length, true, false, Err, IfErr, IfOk, OnOk};
 ghost use Rattle.sector.specs.declared.refusal.Refusal.TheVariants.{JournalFull};
 ghost use Rattle.big_steps.specs.Refusals.{is_starved};
 ghost use Rattle.command_rules.specs.Changes.{Changes, Enters};
@@ -11,10 +11,10 @@ ghost use Rattle.command_rules.specs.declared.place.Place.TheVariants.{In};
 ghost use Rattle.command_rules.specs.declared.place.Role.TheVariants.{Snapshot};
 ghost use Rattle.device_list.specs.Tables.{StaysNamed, StaysSound, table_of};
 ghost use Rattle.device_commands.specs.Asked.{IsFullAt, IsFullFor};
-ghost use Rattle.device_commands.specs.Devices.{NeedsOrigin};
+ghost use Rattle.device_commands.specs.Devices.{NeedsOrigin, StaysOnErr};
 ghost use Rattle.device_commands.specs.Flights.{IsDoneFor};
 ghost use Rattle.device_commands.specs.Merging.{IsBegunIn, IsFinishedIn, IsUnfinishedIn, finished_at, resumed_at};
-ghost use Rattle.device_commands.specs.Order.{IsInOrderFor};
+ghost use Rattle.device_commands.specs.Order.{IsOrderedFor};
 ghost use Rattle.device_commands.specs.Ruled.{is_sound_in, volume_for};
 
 use crate::flights::origin_at;
@@ -65,7 +65,7 @@ pub fn merge_device(alloc: Global, held: &mut Devices, name: &Name) -> Result<()
     ensures done { is_sound_in (volume_for name.now (table_of held.old)) ≡ true → Enters result (table_of held.old) (table_of held.new) (merge_begun name.now (table_of held.old)) }
     ensures refused { IfErr result (λ e. (table_of held.new ≡ table_of held.old) × (is_starved e ≡ false → merge_begun name.now (table_of held.old) ≡ Err e)) }
     ensures begun { OnOk result (IsDoneFor name.now IsBegunIn (table_of held.old) (table_of held.new)) }
-    ensures ordered { IsInOrderFor name.now (table_of held.old) }
+    ensures ordered { IsOrderedFor name.now held.old }
     ensures sound { StaysSound held.old held.new }
     ensures named { StaysNamed held.old held.new }
     ensures full { IsFullFor name.now result held.old held.new }
@@ -105,7 +105,7 @@ fn finish_at(held: &mut Devices, v: usize) -> Result<(), Refusal>
     ensures done { is_sound_in (volume_at v (table_of held.old)) ≡ true → Enters result (table_of held.old) (table_of held.new) (finished_at v (table_of held.old)) }
     ensures unfinished { IfErr result (λ e. is_starved e ≡ false → IsUnfinishedIn e (volume_at v (table_of held.old))) }
     ensures finished { OnOk result (IsFinishedIn v (table_of held.old) (table_of held.new) (volume_at v (table_of held.old))) }
-    ensures err { OnErr result (table_of held.new ≡ table_of held.old) }
+    ensures err { StaysOnErr result held.old held.new }
     ensures sound { StaysSound held.old held.new }
     ensures named { StaysNamed held.old held.new }
     ensures full { IsFullAt v result held.new }
@@ -132,7 +132,7 @@ pub fn finish_device(held: &mut Devices, name: &Name) -> Result<(), Refusal>
     ensures done { is_sound_in (volume_for name.now (table_of held.old)) ≡ true → Enters result (table_of held.old) (table_of held.new) (merge_finished name.now (table_of held.old)) }
     ensures unfinished { IfErr result (λ e. IfOk (origin_by name.now (table_of held.old)) (λ v. is_starved e ≡ false → IsUnfinishedIn e (volume_at v (table_of held.old)))) }
     ensures finished { OnOk result (IfOk (origin_by name.now (table_of held.old)) (λ v. IsFinishedIn v (table_of held.old) (table_of held.new) (volume_at v (table_of held.old)))) }
-    ensures err { OnErr result (table_of held.new ≡ table_of held.old) }
+    ensures err { StaysOnErr result held.old held.new }
     ensures sound { StaysSound held.old held.new }
     ensures named { StaysNamed held.old held.new }
     ensures full { IsFullFor name.now result held.old held.new }

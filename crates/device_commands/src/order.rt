@@ -4,7 +4,7 @@ ghost use Rattle.sector.specs.declared.refusal.Refusal.TheVariants.{JournalFull}
 ghost use Rattle.std.specs.Option.{option_copied};
 ghost use Rattle.command_rules.specs.Places.{found, place_of, volume_at, IsPlaceIn};
 ghost use Rattle.device_list.specs.Tables.{table_of};
-ghost use Rattle.device_commands.specs.Order.{changed_under, IsInOrderFor, IsInOrderIn, IsLookedAt};
+ghost use Rattle.device_commands.specs.Order.{IsInOrderIn, IsLookedAt, IsOrderedFor, changed_under};
 
 use command_rules::Place;
 use device_list::{Devices, find};
@@ -26,7 +26,7 @@ fn look_in(held: &Devices, v: usize)
 pub(crate) fn find_in_order(held: &Devices, name: &Name) -> Result<Place, Refusal>
     ensures place { result ≡ found (place_of name.now (table_of held.now)) }
     ensures within { IfOk result (λ place. IsPlaceIn place (table_of held.now)) }
-    ensures ordered { IsInOrderFor name.now (table_of held.now) }
+    ensures ordered { IsOrderedFor name.now held.now }
     ensures room { IfErr result (λ e. e ≢ JournalFull) }
 {
     match find(held, name) {

@@ -7,7 +7,7 @@ ghost use Rattle.command_rules.specs.Removing.{lowered, take_away};
 ghost use Rattle.command_rules.specs.declared.place.Place.TheVariants.{Free};
 ghost use Rattle.device_list.specs.Tables.{StaysNamed, StaysSound, table_of};
 ghost use Rattle.device_commands.specs.Asked.{IsFullFor};
-ghost use Rattle.device_commands.specs.Order.{IsInOrderFor};
+ghost use Rattle.device_commands.specs.Order.{IsOrderedFor};
 
 use crate::attaching::detach;
 use crate::order::find_in_order;
@@ -38,7 +38,7 @@ fn take_top(held: &mut Devices, i: usize)
 #[tactic(auto, unfolding(command_rules::specs::Removing::take_away), using(command_rules::proofs::Starving::changes_enter))]
 pub fn remove_device(held: &mut Devices, name: &Name) -> Result<(), Refusal>
     ensures done { Enters result (table_of held.old) (table_of held.new) (take_away name.now (table_of held.old)) }
-    ensures ordered { IsInOrderFor name.now (table_of held.old) }
+    ensures ordered { IsOrderedFor name.now held.old }
     ensures sound { StaysSound held.old held.new }
     ensures named { StaysNamed held.old held.new }
     ensures full { IsFullFor name.now result held.old held.new }

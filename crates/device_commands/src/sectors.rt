@@ -9,9 +9,9 @@ ghost use Rattle.command_rules.specs.declared.place.Place.TheVariants.{In};
 ghost use Rattle.device_list.specs.Flights.{IsDenied};
 ghost use Rattle.device_list.specs.Tables.{StaysNamed, StaysSound, table_of};
 ghost use Rattle.device_commands.specs.Asked.{IsFullAt, IsFullFor};
-ghost use Rattle.device_commands.specs.Devices.{KeepsNamesAt, KeepsOthers};
-ghost use Rattle.device_commands.specs.Flights.{IsDoneFor, IsFlushedAmong, IsReadAmong, IsWrittenAmong};
-ghost use Rattle.device_commands.specs.Order.{IsInOrderFor};
+ghost use Rattle.device_commands.specs.Devices.{ChangesOne, KeepsNamesAt, MayAsk};
+ghost use Rattle.device_commands.specs.Flights.{IsDoneFor, IsFlushedAmong, IsReadAmong, IsWrittenAmong, TellsNoneAt};
+ghost use Rattle.device_commands.specs.Order.{IsOrderedFor};
 ghost use Rattle.device_commands.specs.Ruled.{is_quiet_in, is_sound_in, volume_for};
 
 use crate::order::find_in_order;
@@ -37,8 +37,8 @@ fn read_at(
     requires some { 0 < count }
     requires few { count ≤ 2048 }
     ensures done { is_sound_in (volume_at v (table_of held.old)) ≡ true → Serves result (table_of held.new) (λ t. (t ≡ table_of held.old) ⊎ IsInVolume (IsReadAsked count) v (table_of held.old) t (volume_at v (table_of held.old))) (in_volume v (table_of held.old) (read_in role first count) (volume_at v (table_of held.old))) }
-    ensures told { is_quiet_in (volume_at v (table_of held.old)) ≡ true → ended.new.items ≡ ended.old.items }
-    ensures asks { IfErr (asked_at (In v role) first count (table_of held.old)) (λ e. result ≡ Err e) }
+    ensures told { TellsNoneAt v held.old ended.old ended.new }
+    ensures asks { MayAsk v role first count held.old result }
     ensures stays { IfErr (asked_at (In v role) first count (table_of held.old)) (λ _. (table_of held.new ≡ table_of held.old) × (ended.new.items ≡ ended.old.items)) }
     ensures among { IfOk (asked_at (In v role) first count (table_of held.old)) (λ asks. IsInVolume (IsReadAmong result ended.old.items ended.new.items asks) v (table_of held.old) (table_of held.new) (volume_at v (table_of held.old))) }
     ensures denied { is_quiet_in (volume_at v (table_of held.old)) ≡ true → IfErr result (λ e. IfOk (asked_at (In v role) first count (table_of held.old)) (λ _. IsDenied e)) }
@@ -71,7 +71,7 @@ pub fn read_device(
     ensures stays { IfErr (read_asked name.now first count (table_of held.old)) (λ _. (table_of held.new ≡ table_of held.old) × (ended.new.items ≡ ended.old.items)) }
     ensures among { IfOk (read_asked name.now first count (table_of held.old)) (λ asks. IsDoneFor name.now (IsReadAmong result ended.old.items ended.new.items asks) (table_of held.old) (table_of held.new)) }
     ensures denied { is_quiet_in (volume_for name.now (table_of held.old)) ≡ true → IfErr result (λ e. IfOk (read_asked name.now first count (table_of held.old)) (λ _. IsDenied e)) }
-    ensures one { KeepsOthers name.now (table_of held.old) (table_of held.new) }
+    ensures one { ChangesOne name.now held.old held.new }
     ensures sound { StaysSound held.old held.new }
     ensures named { StaysNamed held.old held.new }
     ensures full { IsFullFor name.now result held.old held.new }
@@ -99,8 +99,8 @@ fn write_at(
     requires few { count ≤ 2048 }
     requires room { length bytes.old ≡ 512 * count }
     ensures done { is_sound_in (volume_at v (table_of held.old)) ≡ true → Serves result (table_of held.new) (λ t. (t ≡ table_of held.old) ⊎ IsInVolume (IsPartWritten role first count bytes.old) v (table_of held.old) t (volume_at v (table_of held.old))) (in_volume v (table_of held.old) (written_in role first count bytes.old) (volume_at v (table_of held.old))) }
-    ensures told { is_quiet_in (volume_at v (table_of held.old)) ≡ true → ended.new.items ≡ ended.old.items }
-    ensures asks { IfErr (asked_at (In v role) first count (table_of held.old)) (λ e. result ≡ Err e) }
+    ensures told { TellsNoneAt v held.old ended.old ended.new }
+    ensures asks { MayAsk v role first count held.old result }
     ensures stays { IfErr (asked_at (In v role) first count (table_of held.old)) (λ _. (table_of held.new ≡ table_of held.old) × (ended.new.items ≡ ended.old.items)) }
     ensures among { IfOk (asked_at (In v role) first count (table_of held.old)) (λ asks. IsInVolume (IsWrittenAmong bytes.old result ended.old.items ended.new.items asks) v (table_of held.old) (table_of held.new) (volume_at v (table_of held.old))) }
     ensures denied { is_quiet_in (volume_at v (table_of held.old)) ≡ true → IfErr result (λ e. IfOk (asked_at (In v role) first count (table_of held.old)) (λ _. IsDenied e)) }
@@ -133,8 +133,8 @@ pub fn write_device(
     ensures stays { IfErr (write_asked name.now first bytes.old (table_of held.old)) (λ _. (table_of held.new ≡ table_of held.old) × (ended.new.items ≡ ended.old.items)) }
     ensures among { IfOk (write_asked name.now first bytes.old (table_of held.old)) (λ asks. IsDoneFor name.now (IsWrittenAmong bytes.old result ended.old.items ended.new.items asks) (table_of held.old) (table_of held.new)) }
     ensures denied { is_quiet_in (volume_for name.now (table_of held.old)) ≡ true → IfErr result (λ e. IfOk (write_asked name.now first bytes.old (table_of held.old)) (λ _. IsDenied e)) }
-    ensures one { KeepsOthers name.now (table_of held.old) (table_of held.new) }
-    ensures ordered { IsInOrderFor name.now (table_of held.old) }
+    ensures one { ChangesOne name.now held.old held.new }
+    ensures ordered { IsOrderedFor name.now held.old }
     ensures sound { StaysSound held.old held.new }
     ensures named { StaysNamed held.old held.new }
     ensures full { IsFullFor name.now result held.old held.new }
@@ -156,8 +156,8 @@ fn flush_at(
 ) -> Result<(), Refusal>
     requires place { IsPlaceIn (In v role) (table_of held.old) }
     ensures done { is_sound_in (volume_at v (table_of held.old)) ≡ true → Serves result (table_of held.new) (λ t. (t ≡ table_of held.old) ⊎ IsInVolume (IsReadAsked 1) v (table_of held.old) t (volume_at v (table_of held.old))) (in_volume v (table_of held.old) (flushed_in role) (volume_at v (table_of held.old))) }
-    ensures told { is_quiet_in (volume_at v (table_of held.old)) ≡ true → ended.new.items ≡ ended.old.items }
-    ensures asks { IfErr (asked_at (In v role) 0 1 (table_of held.old)) (λ e. result ≡ Err e) }
+    ensures told { TellsNoneAt v held.old ended.old ended.new }
+    ensures asks { MayAsk v role 0 1 held.old result }
     ensures stays { IfErr (asked_at (In v role) 0 1 (table_of held.old)) (λ _. (table_of held.new ≡ table_of held.old) × (ended.new.items ≡ ended.old.items)) }
     ensures among { IfOk (asked_at (In v role) 0 1 (table_of held.old)) (λ asks. IsInVolume (IsFlushedAmong result ended.old.items ended.new.items asks) v (table_of held.old) (table_of held.new) (volume_at v (table_of held.old))) }
     ensures denied { is_quiet_in (volume_at v (table_of held.old)) ≡ true → IfErr result (λ e. IfOk (asked_at (In v role) 0 1 (table_of held.old)) (λ _. IsDenied e)) }
@@ -187,7 +187,7 @@ pub fn flush_device(
     ensures stays { IfErr (flush_asked name.now (table_of held.old)) (λ _. (table_of held.new ≡ table_of held.old) × (ended.new.items ≡ ended.old.items)) }
     ensures among { IfOk (flush_asked name.now (table_of held.old)) (λ asks. IsDoneFor name.now (IsFlushedAmong result ended.old.items ended.new.items asks) (table_of held.old) (table_of held.new)) }
     ensures denied { is_quiet_in (volume_for name.now (table_of held.old)) ≡ true → IfErr result (λ e. IfOk (flush_asked name.now (table_of held.old)) (λ _. IsDenied e)) }
-    ensures one { KeepsOthers name.now (table_of held.old) (table_of held.new) }
+    ensures one { ChangesOne name.now held.old held.new }
     ensures sound { StaysSound held.old held.new }
     ensures named { StaysNamed held.old held.new }
     ensures full { IsFullFor name.now result held.old held.new }

@@ -1,11 +1,16 @@
 -- A volume with the names of its devices, as contracts see it: what it shows, and the very volume of events that stands behind.
 -- This project's own.
-use Rattle.std.specs.Prelude.{◌≡◌, ◌≢◌, true, List}
+use Rattle.std.specs.Global.{Vec}
+use Rattle.std.specs.Prelude.{◌≡◌, ◌≢◌, ◌+◌, ℕ, true, List, Result, Err, IfErr, IfOk}
+use Rattle.sector.specs.declared.refusal.Refusal.{Refusal}
 use Rattle.layers.specs.declared.stack.Stack.{Stack}
 use Rattle.layers.specs.Stack.{stack_contents, stack_layers}
 use Rattle.plain_machine.specs.declared.event.Event.{Event}
+use Rattle.plain_machine.specs.declared.request.Replied.{Replied}
 use Rattle.volume.specs.Volumed.{Volumed, is_due_of}
+use Rattle.command_rules.specs.Sectors.{asked_of}
 use Rattle.command_rules.specs.State.{Stacked, Volume}
+use Rattle.command_rules.specs.declared.place.Role.{Role}
 use Rattle.device_list.specs.Flights.{IsBehind}
 
 pub record Backed : Type 0 where
@@ -27,3 +32,15 @@ pub record IsNotDueIn (event : Event) (volume : Backed) : Type 0 where
 pub record Left : Type 0 where
   pub shown : List Stacked
   pub devices : List Stack
+
+-- these sectors of a device must be such as may be asked for: where they are not, so is answered
+abbrev pub MayAsk : {A : Type 0} → Role → ℕ → ℕ → Backed → Result A Refusal → Type 0
+MayAsk role first count volume result = IfErr (asked_of role first count volume.shown) (λ e. result ≡ Err e)
+
+-- where they are, they count among those that it was asked for
+abbrev pub Counts : Role → ℕ → ℕ → Backed → Backed → Type 0
+Counts role first count old new = IfOk (asked_of role first count old.shown) (λ _. new.shown.asked ≡ old.shown.asked + count)
+
+-- where nothing is in flight, no reply is told of a request that was
+abbrev pub TellsNone : Backed → Vec Replied → Vec Replied → Type 0
+TellsNone old before after = old.shown.quiet ≡ true → after.items ≡ before.items

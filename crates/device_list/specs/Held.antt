@@ -1,5 +1,5 @@
 -- What holds of a volume with the names of its devices. This project's own.
-use Rattle.std.specs.Prelude.{◌≡◌, ◌≤◌, ℕ, Bool, true, List, length, Option, Some, None, is_some, if◌then◌else◌}
+use Rattle.std.specs.Prelude.{◌≡◌, ◌≤◌, ℕ, Bool, true, List, length, Option, Some, None, IfNone, is_some, if◌then◌else◌}
 use Rattle.layers.specs.declared.stack.Stack.{Stack}
 use Rattle.layers.specs.Stack.{stack_contents, stack_layers}
 use Rattle.event_machine.specs.Held.{Moving}
@@ -42,3 +42,7 @@ pub record IsHeld (names : List Names) (merging : Option Names) (volume : Rested
   pub begun : is_some merging ≡ is_some volume.events.merge
   pub requests : volume.requests ≤ asked
   pub loud : sound ≡ true → is_loud_in stack_layers volume ≡ true
+
+-- nothing is told of a merge only where none is begun
+abbrev pub HasNoMerge : {A : Type 0} → Option A → Rested Stack → Type 0
+HasNoMerge told volume = IfNone told ((merged_inside volume).merge ≡ None)

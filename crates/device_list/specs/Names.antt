@@ -1,5 +1,5 @@
 -- What calls leave of the names of a volume's devices.
-use Rattle.std.specs.Prelude.{◌≡◌, ◌+◌, Bool, List, ℕ, [], ◌∷◌, ◌++◌}
+use Rattle.std.specs.Prelude.{◌≡◌, ◌+◌, Bool, true, List, ℕ, [], ◌∷◌, ◌++◌}
 use Rattle.std.specs.Prelude.{Some, None, Ok}
 use Rattle.std.specs.List.{remove}
 use Rattle.command_rules.specs.State.{Stacked, Names, Volume, names_in}
@@ -47,3 +47,14 @@ pub record IsNamedLess (stacked : Stacked) (old new : Volume) : Type 0 where
   pub store : stacked.names ≡ names.store
   pub merging : names_in new.merging ≡ None
   pub given : new.given ≡ old.given
+
+-- whether a device ever dropped writes is as it was; and whether anything is left to do
+abbrev pub KeepsSound : Volume → Volume → Type 0
+KeepsSound old new = new.sound ≡ old.sound
+
+abbrev pub KeepsQuiet : Volume → Volume → Type 0
+KeepsQuiet old new = new.quiet ≡ old.quiet
+
+-- where nothing is left to do, nothing is after
+abbrev pub StaysQuiet : Volume → Volume → Type 0
+StaysQuiet old new = old.quiet ≡ true → new.quiet ≡ true

@@ -61,3 +61,7 @@ place_begun v = earlier_than (merging_number v.events.merge) v.snaps
 -- the name of the snapshot at that place is the merge's now
 abbrev pub with_begun : ℕ → Parts → Parts
 with_begun k p = record p { snaps = remove p.snaps k; merging = slice_get p.snaps k }
+
+-- there are names for each of its snapshots
+abbrev pub NamesAll : {A B : Type 0} → List A → Rested B → Type 0
+NamesAll names volume = length names ≡ length volume.snaps

@@ -1,7 +1,9 @@
 -- The devices as contracts see them, and what calls leave of all of them.
-use Rattle.std.specs.Prelude.{◌≡◌, true, map}
+use Rattle.std.specs.Prelude.{◌≡◌, true, map, Option, IfSome}
 use Rattle.command_rules.specs.State.{Table}
 use Rattle.command_rules.specs.Naming.{AreNamed}
+use Rattle.command_rules.specs.Places.{IsPlaceIn}
+use Rattle.command_rules.specs.declared.place.Place.{Place}
 use Rattle.command_rules.specs.Sound.{is_sound}
 use Rattle.device_list.specs.declared.held.Devices.{Devices}
 
@@ -15,3 +17,7 @@ StaysNamed old new = AreNamed (table_of old) → AreNamed (table_of new)
 -- where no device dropped writes, and nothing was in flight, it is so still
 abbrev pub StaysSound : Devices → Devices → Type 0
 StaysSound old new = is_sound (table_of old) ≡ true → is_sound (table_of new) ≡ true
+
+-- a place that is told is one of a device that is there
+abbrev pub IsThere : Option Place → Devices → Type 0
+IsThere told held = IfSome told (λ place. IsPlaceIn place (table_of held))

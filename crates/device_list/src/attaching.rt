@@ -5,7 +5,7 @@ ghost use Rattle.device.specs.Layers.{is_loud};
 ghost use Rattle.big_steps.specs.Refusals.{is_starved};
 ghost use Rattle.command_rules.specs.Snapshots.{meet, parted};
 ghost use Rattle.device_list.specs.Asked.{IsFullIn, has_asked_much};
-ghost use Rattle.device_list.specs.Names.{IsNamedMore};
+ghost use Rattle.device_list.specs.Names.{IsNamedMore, KeepsQuiet, KeepsSound};
 ghost use Rattle.device_list.specs.Taking.{IsNotMet};
 
 use crate::origin::NamedVolume;
@@ -39,7 +39,7 @@ impl NamedVolume {
         ensures same { OnErr result (self.new.shown ≡ self.old.shown) }
         ensures sound { OnOk result (self.new.shown.sound ≡ self.old.shown.sound && is_loud stack.device.layers) }
         ensures loud { IfErr result (λ e. is_loud e.1.device.layers ≡ is_loud stack.device.layers) }
-        ensures quiet { self.new.shown.quiet ≡ self.old.shown.quiet }
+        ensures quiet { KeepsQuiet self.old.shown self.new.shown }
         ensures still { OnOk result (self.old.shown.quiet ≡ true) }
         ensures full { IfErr result (λ e. e.0 ≡ JournalFull → has_asked_much self.new.shown ≡ true) }
     {
@@ -79,7 +79,7 @@ impl NamedVolume {
         ensures busy { IfErr result (λ e. e ≢ JournalFull → parted k self.old.shown ≡ Err e) }
         ensures same { OnErr result (self.new ≡ self.old) }
         ensures loud { IfOk result (λ stack. self.old.shown.sound ≡ true → is_loud stack.device.layers ≡ true) }
-        ensures sound { self.new.shown.sound ≡ self.old.shown.sound }
+        ensures sound { KeepsSound self.old.shown self.new.shown }
         ensures full { IsFullIn result self.new.shown }
     {
         look(&self.volume);

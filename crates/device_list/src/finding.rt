@@ -1,7 +1,7 @@
 // Finding a device by its name.
 ghost use Rattle.std.specs.Prelude.{◌≡◌, ◌≢◌, ◌<◌, ◌-◌, length, IfSome, IfErr, IfOk, nat_le, sum_by, slice_get, Some, position};
 ghost use Rattle.sector.specs.declared.refusal.Refusal.TheVariants.{JournalFull};
-ghost use Rattle.device_list.specs.Tables.{table_of};
+ghost use Rattle.device_list.specs.Tables.{table_of, IsThere};
 ghost use Rattle.command_rules.specs.Places.{place_of, place_free, place_among, found, is_among, IsDepthAt, IsRoleAt, IsPlaceIn};
 ghost use Rattle.command_rules.specs.declared.place.Place.TheVariants.{Free, In};
 ghost use Rattle.command_rules.specs.Disks.{device_count, devices_in, devices_of};
@@ -24,7 +24,7 @@ fn stack_of(stacks: &[NamedStack], name: &Name) -> Option<usize>
 #[tactic(auto, unfolding(command_rules::specs::Places::place_free))]
 fn place_free(held: &Devices, name: &Name) -> Option<Place>
     ensures place { result ≡ place_free name.now held.now.stacks.items }
-    ensures within { IfSome result (λ place. IsPlaceIn place (table_of held.now)) }
+    ensures within { IsThere result held.now }
 {
     match stack_of(&held.stacks, name) {
         None => None,
@@ -39,7 +39,7 @@ fn place_free(held: &Devices, name: &Name) -> Option<Place>
 #[tactic(auto, using(crate::proofs::Firsts::passed_by))]
 fn place_among(held: &Devices, name: &Name) -> Option<Place>
     ensures place { result ≡ place_among name.now (table_of held.now).volumes }
-    ensures within { IfSome result (λ place. IsPlaceIn place (table_of held.now)) }
+    ensures within { IsThere result held.now }
 {
     for (v, volume) in held.volumes.iter().enumerate() {
         if let Some(role) = volume.role(name) {
@@ -53,7 +53,7 @@ fn place_among(held: &Devices, name: &Name) -> Option<Place>
 #[tactic(auto, unfolding(command_rules::specs::Places::place_of))]
 pub fn find(held: &Devices, name: &Name) -> Option<Place>
     ensures place { result ≡ place_of name.now (table_of held.now) }
-    ensures within { IfSome result (λ place. IsPlaceIn place (table_of held.now)) }
+    ensures within { IsThere result held.now }
 {
     match place_free(held, name) {
         Some(place) => Some(place),

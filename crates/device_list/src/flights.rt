@@ -1,5 +1,5 @@
 // Requests that one call starts and later ones end.
-ghost use Rattle.std.specs.Prelude.{◌≡◌, ◌≢◌, ◌+◌, ◌*◌, ◌<◌, ◌≤◌, ℕ, List, length, get_or, is_ok, true, false, not, ◌&&◌, None, Ok, Err, IfErr, IfOk, OnOk, OnErr};
+ghost use Rattle.std.specs.Prelude.{◌≡◌, ◌≢◌, ◌*◌, ◌<◌, ◌≤◌, ℕ, List, length, get_or, is_ok, true, false, not, ◌&&◌, None, Ok, Err, IfErr, IfOk, OnOk, OnErr};
 ghost use Rattle.sector.specs.declared.refusal.Refusal.TheVariants.{NoMemory, Invalid, JournalFull, Overflow};
 ghost use Rattle.plain_machine.specs.declared.request.Op.TheVariants.{Write};
 ghost use Rattle.big_steps.specs.Snaps.{Snap};
@@ -8,7 +8,7 @@ ghost use Rattle.command_rules.specs.Events.{merge_done};
 ghost use Rattle.command_rules.specs.Places.{IsRoleIn};
 ghost use Rattle.command_rules.specs.Sectors.{asked_of};
 ghost use Rattle.device_list.specs.Asked.{IsFullIn};
-ghost use Rattle.device_list.specs.Backed.{InBacked, IsNotDueIn};
+ghost use Rattle.device_list.specs.Backed.{InBacked, IsNotDueIn, Counts, MayAsk};
 ghost use Rattle.device_list.specs.Flights.{Declines, IsEventDone, Settles, Starts};
 ghost use Rattle.device_list.specs.Names.{KeepsNames};
 
@@ -56,12 +56,12 @@ impl NamedVolume {
         requires some { 0 < count }
         requires few { count ≤ 2048 }
         requires bytes { (bytes : List ℕ) → op ≡ Write bytes → length bytes ≡ 512 * count }
-        ensures asks { IfErr (asked_of role first count self.old.shown) (λ e. result ≡ Err e) }
+        ensures asks { MayAsk role first count self.old result }
         ensures stays { IfErr (asked_of role first count self.old.shown) (λ _. self.new ≡ self.old) }
         ensures flies { OnOk result (self.new.shown.quiet ≡ false) }
         ensures started { IfOk result (λ number. IfOk (asked_of role first count self.old.shown) (λ asks. InBacked (Starts op number asks) self.old self.new)) }
         ensures refused { IfErr result (λ e. IfOk (asked_of role first count self.old.shown) (λ asks. InBacked (Declines op e asks) self.old self.new)) }
-        ensures counts { IfOk (asked_of role first count self.old.shown) (λ _. self.new.shown.asked ≡ self.old.shown.asked + count) }
+        ensures counts { Counts role first count self.old self.new }
         ensures same { IfErr result (λ e. e ≢ Invalid → e ≢ Overflow → self.new.shown.state ≡ self.old.shown.state) }
         ensures still { IfErr result (λ e. e ≢ Invalid → self.new.shown.quiet ≡ self.old.shown.quiet) }
         ensures kept { KeepsNames self.old.shown self.new.shown }

@@ -7,7 +7,7 @@ ghost use Rattle.command_rules.specs.Changes.{Changes, Enters};
 ghost use Rattle.command_rules.specs.Merging.{begun, finished, resumed};
 ghost use Rattle.device_list.specs.Asked.{IsFullIn};
 ghost use Rattle.device_list.specs.Flights.{IsUnfinished};
-ghost use Rattle.device_list.specs.Names.{IsNamedBegun, IsNamedLess};
+ghost use Rattle.device_list.specs.Names.{IsNamedBegun, IsNamedLess, KeepsQuiet, KeepsSound};
 
 use crate::origin::NamedVolume;
 use crate::stored::{look, look_at_places};
@@ -24,8 +24,8 @@ impl NamedVolume {
         ensures done { self.old.shown.sound ≡ true → Enters result self.old.shown self.new.shown (begun k self.old.shown) }
         ensures err { IfErr result (λ e. (self.new.shown ≡ self.old.shown) × (is_starved e ≡ false → begun k self.old.shown ≡ Err e)) }
         ensures named { OnOk result (IsNamedBegun k self.old.shown self.new.shown) }
-        ensures sound { self.new.shown.sound ≡ self.old.shown.sound }
-        ensures quiet { self.new.shown.quiet ≡ self.old.shown.quiet }
+        ensures sound { KeepsSound self.old.shown self.new.shown }
+        ensures quiet { KeepsQuiet self.old.shown self.new.shown }
         ensures full { IsFullIn result self.new.shown }
     {
         if self.merging.is_some() {
@@ -60,7 +60,7 @@ impl NamedVolume {
         ensures named { IfOk result (λ stack. IsNamedLess stack self.old.shown self.new.shown) }
         ensures same { OnErr result (self.new ≡ self.old) }
         ensures loud { IfOk result (λ stack. self.old.shown.sound ≡ true → is_loud stack.device.layers ≡ true) }
-        ensures sound { self.new.shown.sound ≡ self.old.shown.sound }
+        ensures sound { KeepsSound self.old.shown self.new.shown }
         ensures quiet { OnOk result ((self.old.shown.quiet ≡ true) × (self.new.shown.quiet ≡ true)) }
         ensures full { IsFullIn result self.new.shown }
     {

@@ -5,7 +5,7 @@ ghost use Rattle.layers.specs.Stack.{stack_layers};
 ghost use Rattle.volume_commands.specs.Rested.{is_loud_in};
 ghost use Rattle.command_rules.specs.Naming.{merging_sum, names_sum, volume_sum};
 ghost use Rattle.volume.specs.Leaving.{is_quiet_of};
-ghost use Rattle.device_list.specs.Parting.{HasAll, HasBegun, IsParted, backed_with, parts_sum, place_begun, with_begun, with_requests};
+ghost use Rattle.device_list.specs.Parting.{HasAll, HasBegun, IsParted, backed_with, parts_sum, place_begun, with_begun, with_requests, NamesAll};
 
 use crate::origin::NamedVolume;
 use crate::stopping::earlier;
@@ -53,7 +53,7 @@ fn take_begun(snaps: &mut Vec<SnapNames>, volume: &Resting<Stack>) -> SnapNames
     requires { length snaps.old.items ≡ suc (length volume.now.rested.snaps) }
     ensures rest { snaps.new.items ≡ remove snaps.old.items (place_begun volume.now.rested) }
     ensures names { slice_get snaps.old.items (place_begun volume.now.rested) ≡ Some result }
-    ensures many { length snaps.new.items ≡ length volume.now.rested.snaps }
+    ensures many { NamesAll snaps.new.items volume.now.rested }
     ensures sum { (f : List ℕ → ℕ) → sum_by (names_sum f) snaps.new.items + names_sum f result ≡ sum_by (names_sum f) snaps.old.items }
 {
     let k = earlier(volume);
@@ -64,7 +64,7 @@ fn take_begun(snaps: &mut Vec<SnapNames>, volume: &Resting<Stack>) -> SnapNames
 #[tactic(auto, using(crate::proofs::Begun::one_more, crate::proofs::Begun::still_all, crate::proofs::Begun::none_sum, crate::proofs::Begun::none_begun))]
 fn name_merge(snaps: &mut Vec<SnapNames>, merging: &mut Option<SnapNames>, volume: &Resting<Stack>)
     requires many { ((length snaps.old.items ≡ length volume.now.rested.snaps) × (is_some merging.old ≡ is_some volume.now.rested.events.merge)) ⊎ ((length snaps.old.items ≡ suc (length volume.now.rested.snaps)) × (merging.old ≡ None) × (is_some volume.now.rested.events.merge ≡ true)) }
-    ensures many { length snaps.new.items ≡ length volume.now.rested.snaps }
+    ensures many { NamesAll snaps.new.items volume.now.rested }
     ensures begun { is_some merging.new ≡ is_some volume.now.rested.events.merge }
     ensures same { is_some merging.old ≡ is_some volume.now.rested.events.merge → (snaps.new.items ≡ snaps.old.items) × (merging.new ≡ merging.old) }
     ensures sum { (f : List ℕ → ℕ) → sum_by (names_sum f) snaps.new.items + merging_sum f merging.new ≡ sum_by (names_sum f) snaps.old.items + merging_sum f merging.old }

@@ -9,10 +9,10 @@ ghost use Rattle.command_rules.specs.Changes.{Serves};
 ghost use Rattle.command_rules.specs.Places.{HasRole, IsRoleIn};
 ghost use Rattle.command_rules.specs.Sectors.{asked_of, dev_of, serves, takes, flushed_in, read_in, written_in, IsReadAsked, IsPartWritten};
 ghost use Rattle.device_list.specs.Asked.{IsFullIn};
-ghost use Rattle.device_list.specs.Backed.{InBacked};
+ghost use Rattle.device_list.specs.Backed.{InBacked, Counts, MayAsk, TellsNone};
 ghost use Rattle.device_list.specs.Flights.{FlushesAmong, FlushesAtRest, IsDenied, ReadsAmong, ReadsAtRest, WritesAmong, WritesAtRest};
 ghost use Rattle.device_list.specs.Held.{settled_in};
-ghost use Rattle.device_list.specs.Names.{KeepsNames};
+ghost use Rattle.device_list.specs.Names.{KeepsNames, StaysQuiet};
 
 use crate::origin::NamedVolume;
 use crate::stored::look_at_places;
@@ -128,12 +128,12 @@ impl NamedVolume {
         ensures done { self.old.shown.sound ≡ true → self.old.shown.quiet ≡ true → Serves result self.new.shown (λ v. (v ≡ self.old.shown) ⊎ IsReadAsked count self.old.shown v) (read_in role first count self.old.shown) }
         ensures among { self.old.shown.quiet ≡ false → IfOk (asked_of role first count self.old.shown) (λ asks. InBacked (ReadsAmong result ended.old.items ended.new.items asks) self.old self.new) }
         ensures at_rest { self.old.shown.quiet ≡ true → IfOk (asked_of role first count self.old.shown) (λ asks. InBacked (ReadsAtRest result asks) self.old self.new) }
-        ensures counts { IfOk (asked_of role first count self.old.shown) (λ _. self.new.shown.asked ≡ self.old.shown.asked + count) }
-        ensures told { self.old.shown.quiet ≡ true → ended.new.items ≡ ended.old.items }
-        ensures asks { IfErr (asked_of role first count self.old.shown) (λ e. result ≡ Err e) }
+        ensures counts { Counts role first count self.old self.new }
+        ensures told { TellsNone self.old ended.old ended.new }
+        ensures asks { MayAsk role first count self.old result }
         ensures denied { self.old.shown.quiet ≡ true → IfErr result (λ e. IfOk (asked_of role first count self.old.shown) (λ _. IsDenied e)) }
         ensures stays { IfErr (asked_of role first count self.old.shown) (λ _. (self.new ≡ self.old) × (ended.new.items ≡ ended.old.items)) }
-        ensures quiet { self.old.shown.quiet ≡ true → self.new.shown.quiet ≡ true }
+        ensures quiet { StaysQuiet self.old.shown self.new.shown }
         ensures kept { KeepsNames self.old.shown self.new.shown }
         ensures full { IsFullIn result self.new.shown }
     {
@@ -169,12 +169,12 @@ impl NamedVolume {
         ensures done { self.old.shown.sound ≡ true → self.old.shown.quiet ≡ true → Serves result self.new.shown (λ v. (v ≡ self.old.shown) ⊎ IsPartWritten role first count bytes.old self.old.shown v) (written_in role first count bytes.old self.old.shown) }
         ensures among { self.old.shown.quiet ≡ false → IfOk (asked_of role first count self.old.shown) (λ asks. InBacked (WritesAmong bytes.old result ended.old.items ended.new.items asks) self.old self.new) }
         ensures at_rest { self.old.shown.quiet ≡ true → IfOk (asked_of role first count self.old.shown) (λ asks. InBacked (WritesAtRest bytes.old result asks) self.old self.new) }
-        ensures counts { IfOk (asked_of role first count self.old.shown) (λ _. self.new.shown.asked ≡ self.old.shown.asked + count) }
-        ensures told { self.old.shown.quiet ≡ true → ended.new.items ≡ ended.old.items }
-        ensures asks { IfErr (asked_of role first count self.old.shown) (λ e. result ≡ Err e) }
+        ensures counts { Counts role first count self.old self.new }
+        ensures told { TellsNone self.old ended.old ended.new }
+        ensures asks { MayAsk role first count self.old result }
         ensures denied { self.old.shown.quiet ≡ true → IfErr result (λ e. IfOk (asked_of role first count self.old.shown) (λ _. IsDenied e)) }
         ensures stays { IfErr (asked_of role first count self.old.shown) (λ _. (self.new ≡ self.old) × (ended.new.items ≡ ended.old.items)) }
-        ensures quiet { self.old.shown.quiet ≡ true → self.new.shown.quiet ≡ true }
+        ensures quiet { StaysQuiet self.old.shown self.new.shown }
         ensures kept { KeepsNames self.old.shown self.new.shown }
         ensures full { IsFullIn result self.new.shown }
     {
@@ -198,12 +198,12 @@ impl NamedVolume {
         ensures done { self.old.shown.sound ≡ true → self.old.shown.quiet ≡ true → Serves result self.new.shown (λ v. (v ≡ self.old.shown) ⊎ IsReadAsked 1 self.old.shown v) (flushed_in role self.old.shown) }
         ensures among { self.old.shown.quiet ≡ false → IfOk (asked_of role 0 1 self.old.shown) (λ asks. InBacked (FlushesAmong result ended.old.items ended.new.items asks) self.old self.new) }
         ensures at_rest { self.old.shown.quiet ≡ true → IfOk (asked_of role 0 1 self.old.shown) (λ asks. InBacked (FlushesAtRest result asks) self.old self.new) }
-        ensures counts { IfOk (asked_of role 0 1 self.old.shown) (λ _. self.new.shown.asked ≡ self.old.shown.asked + 1) }
-        ensures told { self.old.shown.quiet ≡ true → ended.new.items ≡ ended.old.items }
-        ensures asks { IfErr (asked_of role 0 1 self.old.shown) (λ e. result ≡ Err e) }
+        ensures counts { Counts role 0 1 self.old self.new }
+        ensures told { TellsNone self.old ended.old ended.new }
+        ensures asks { MayAsk role 0 1 self.old result }
         ensures denied { self.old.shown.quiet ≡ true → IfErr result (λ e. IfOk (asked_of role 0 1 self.old.shown) (λ _. IsDenied e)) }
         ensures stays { IfErr (asked_of role 0 1 self.old.shown) (λ _. (self.new ≡ self.old) × (ended.new.items ≡ ended.old.items)) }
-        ensures quiet { self.old.shown.quiet ≡ true → self.new.shown.quiet ≡ true }
+        ensures quiet { StaysQuiet self.old.shown self.new.shown }
         ensures kept { KeepsNames self.old.shown self.new.shown }
         ensures full { IsFullIn result self.new.shown }
     {

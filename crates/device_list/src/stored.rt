@@ -1,5 +1,5 @@
 // What a volume over stacks tells of the snapshot at a place.
-ghost use Rattle.std.specs.Prelude.{◌≡◌, ◌<◌, ◌≤◌, ◌+◌, ◌*◌, true, length, get_or, IfSome, IfNone, Some, None};
+ghost use Rattle.std.specs.Prelude.{◌≡◌, ◌<◌, ◌≤◌, ◌+◌, ◌*◌, true, length, get_or, IfSome, Some, None};
 ghost use Rattle.layers.specs.Stack.{stack_layers};
 ghost use Rattle.big_steps.specs.Merges.{Merge};
 ghost use Rattle.big_steps.specs.Snaps.{Snap};
@@ -9,7 +9,7 @@ ghost use Rattle.volume_commands.specs.Flying.{IsWhole};
 ghost use Rattle.volume_commands.specs.Rested.{is_loud_in};
 ghost use Rattle.command_rules.specs.Stacks.{device_of};
 ghost use Rattle.command_rules.specs.Status.{merge_state, state_of};
-ghost use Rattle.device_list.specs.Held.{merged_inside, settled_in, IsSettledIn};
+ghost use Rattle.device_list.specs.Held.{merged_inside, settled_in, IsSettledIn, HasNoMerge};
 ghost use Rattle.device_list.specs.Status.{IsStateAt};
 
 use chunk_alloc::Usage;
@@ -89,7 +89,7 @@ pub(crate) fn state_at(volume: &Resting<Stack>, k: usize) -> StatusState
 /// The stack of the merging store, if a merge is begun.
 pub(crate) fn merging_store(volume: &Resting<Stack>) -> Option<&Stack>
     ensures some { IfSome result (λ store. (g : Merge) × ((merged_inside volume.now.rested).merge ≡ Some g) × (device_of store.now ≡ g.store)) }
-    ensures none { IfNone result ((merged_inside volume.now.rested).merge ≡ None) }
+    ensures none { HasNoMerge result volume.now.rested }
 {
     volume.merging_store()
 }
@@ -97,7 +97,7 @@ pub(crate) fn merging_store(volume: &Resting<Stack>) -> Option<&Stack>
 /// The chunk size of the merge, in sectors.
 pub(crate) fn merging_chunk(volume: &Resting<Stack>) -> Option<u32>
     ensures some { IfSome result (λ chunk. (g : Merge) × ((merged_inside volume.now.rested).merge ≡ Some g) × (chunk ≡ g.chunk)) }
-    ensures none { IfNone result ((merged_inside volume.now.rested).merge ≡ None) }
+    ensures none { HasNoMerge result volume.now.rested }
 {
     volume.merging_chunk()
 }
@@ -105,7 +105,7 @@ pub(crate) fn merging_chunk(volume: &Resting<Stack>) -> Option<u32>
 /// What the status line of the origin says of the merge.
 pub(crate) fn merging_state(volume: &Resting<Stack>) -> Option<StatusState>
     ensures some { IfSome result (λ state. (g : Merge) × ((merged_inside volume.now.rested).merge ≡ Some g) × (state ≡ merge_state g)) }
-    ensures none { IfNone result ((merged_inside volume.now.rested).merge ≡ None) }
+    ensures none { HasNoMerge result volume.now.rested }
 {
     let usage = match volume.merging_usage() {
         None => return None,

@@ -1,3 +1,4 @@
 pub mod Stops
+pub mod Reads
 pub mod MemFiles
 pub mod Past

@@ -20,3 +20,18 @@ pub record Elapses (before now : ℕ) (past since : ℕ → (ℕ → List ℕ) �
 pub record HasCause {T E : Type 0} (there : Type 0) (before now : ℕ) (result : Result T E) : Type 0 where
   pub later : before ≤ now
   pub failed : IsErr result → there → before < now
+
+-- A call leaves the bytes of each file; or how many they are.
+abbrev pub HoldSame : {S : Type 0} → (S → ℕ → List ℕ) → S → S → Type 0
+HoldSame bytes old new = (f : ℕ) → bytes new f ≡ bytes old f
+
+abbrev pub HoldAsMany : {S : Type 0} → (S → ℕ → List ℕ) → S → S → Type 0
+HoldAsMany bytes old new = (f : ℕ) → length (bytes new f) ≡ length (bytes old f)
+
+-- after it a stop leaves nothing that it could not leave before
+abbrev pub LeavesNoMore : {S : Type 0} → (S → ℕ → ℕ → List ℕ → Type 0) → S → S → Type 0
+LeavesNoMore may_hold old new = (f s : ℕ) (v : List ℕ) → may_hold new f s v → may_hold old f s v
+
+-- and a sync makes last what it would have made last before
+abbrev pub LastsStill : {S : Type 0} → (S → ℕ → ℕ → Type 0) → S → S → Type 0
+LastsStill will_last old new = (f s : ℕ) → will_last old f s → will_last new f s

@@ -1,7 +1,7 @@
 // What files are to the code above them.
 ghost use Rattle.std.specs.Prelude.{◌≡◌, ◌≢◌, ◌⊎◌, ℕ, ◌+◌, ◌*◌, ◌-◌, ◌%◌, ◌<◌, ◌≤◌, List, length, take, drop, IfOk, OnOk};
 ghost use Rattle.sector.specs.Bytes.{sector_at, with_sectors};
-ghost use Rattle.image.specs.Stops.{AreLeft, Elapses, HasCause};
+ghost use Rattle.image.specs.Stops.{AreLeft, Elapses, HasCause, HoldAsMany, HoldSame, LastsStill, LeavesNoMore};
 
 use std::io;
 
@@ -37,9 +37,9 @@ pub trait FileSet {
     fn len(&mut self, file: usize) -> io::Result<u64>
         ensures value { IfOk result (λ n. is_known self.old → n ≡ length (bytes self.old file)) }
         ensures known { is_known self.old → is_known self.new }
-        ensures bytes { (f : ℕ) → bytes self.new f ≡ bytes self.old f }
-        ensures stop { (f s : ℕ) (v : List ℕ) → may_hold self.new f s v → may_hold self.old f s v }
-        ensures lasts { (f s : ℕ) → will_last self.old f s → will_last self.new f s }
+        ensures bytes { HoldSame bytes self.old self.new }
+        ensures stop { LeavesNoMore may_hold self.old self.new }
+        ensures lasts { LastsStill will_last self.old self.new }
         ensures time { Elapses (moment self.old) (moment self.new) (left_since self.old) (left_since self.new) (bytes self.new) (may_hold self.new) }
         ensures cause { HasCause (is_known self.old × (lacks_memory self.new → ⊥)) (fault_count self.old) (fault_count self.new) result };
 
@@ -47,9 +47,9 @@ pub trait FileSet {
     fn read_at(&mut self, file: usize, at: u64, out: &mut [u8]) -> io::Result<()>
         ensures data { OnOk result (is_known self.old → out.new ≡ take (length out.old) (drop at (bytes self.old file))) }
         ensures known { is_known self.old → is_known self.new }
-        ensures bytes { (f : ℕ) → bytes self.new f ≡ bytes self.old f }
-        ensures stop { (f s : ℕ) (v : List ℕ) → may_hold self.new f s v → may_hold self.old f s v }
-        ensures lasts { (f s : ℕ) → will_last self.old f s → will_last self.new f s }
+        ensures bytes { HoldSame bytes self.old self.new }
+        ensures stop { LeavesNoMore may_hold self.old self.new }
+        ensures lasts { LastsStill will_last self.old self.new }
         ensures time { Elapses (moment self.old) (moment self.new) (left_since self.old) (left_since self.new) (bytes self.new) (may_hold self.new) }
         ensures cause { HasCause (is_known self.old × (at + length out.old ≤ length (bytes self.old file)) × (lacks_memory self.new → ⊥)) (fault_count self.old) (fault_count self.new) result };
 
@@ -59,10 +59,10 @@ pub trait FileSet {
         requires whole { length part.now % 512 ≡ 0 }
         ensures written { OnOk result (is_known self.old → 512 * sector + length part.now ≤ length (bytes self.old file) → bytes self.new file ≡ with_sectors (bytes self.old file) sector part.now) }
         ensures beside { (f : ℕ) → f ≢ file → bytes self.new f ≡ bytes self.old f }
-        ensures len { (f : ℕ) → length (bytes self.new f) ≡ length (bytes self.old f) }
+        ensures len { HoldAsMany bytes self.old self.new }
         ensures known { is_known self.old → is_known self.new }
         ensures stop { (f s : ℕ) (v : List ℕ) → may_hold self.new f s v → may_hold self.old f s v ⊎ ((f ≡ file) × (sector ≤ s) × (512 * (s - sector) < length part.now) × (v ≡ sector_at part.now (s - sector))) }
-        ensures lasts { (f s : ℕ) → will_last self.old f s → will_last self.new f s }
+        ensures lasts { LastsStill will_last self.old self.new }
         ensures fresh { OnOk result ((s : ℕ) → sector ≤ s → 512 * (s - sector) < length part.now → will_last self.new file s) }
         ensures time { Elapses (moment self.old) (moment self.new) (left_since self.old) (left_since self.new) (bytes self.new) (may_hold self.new) }
         ensures cause { HasCause (is_known self.old × (512 * sector + length part.now ≤ length (bytes self.old file)) × (lacks_memory self.new → ⊥)) (fault_count self.old) (fault_count self.new) result };
@@ -71,11 +71,11 @@ pub trait FileSet {
     /// this one fails, what was written may be lost for good, and what reads give is not known.
     fn sync(&mut self, file: usize) -> io::Result<()>
         ensures synced { OnOk result (is_known self.old → (s : ℕ) (v : List ℕ) → 512 * s < length (bytes self.old file) → will_last self.old file s → may_hold self.new file s v → v ≡ sector_at (bytes self.old file) s) }
-        ensures bytes { OnOk result ((f : ℕ) → bytes self.new f ≡ bytes self.old f) }
-        ensures len { (f : ℕ) → length (bytes self.new f) ≡ length (bytes self.old f) }
+        ensures bytes { OnOk result (HoldSame bytes self.old self.new) }
+        ensures len { HoldAsMany bytes self.old self.new }
         ensures known { is_known self.old → is_known self.new }
-        ensures stop { (f s : ℕ) (v : List ℕ) → may_hold self.new f s v → may_hold self.old f s v }
-        ensures lasts { OnOk result ((f s : ℕ) → will_last self.old f s → will_last self.new f s) }
+        ensures stop { LeavesNoMore may_hold self.old self.new }
+        ensures lasts { OnOk result (LastsStill will_last self.old self.new) }
         ensures others { (f s : ℕ) → f ≢ file → will_last self.old f s → will_last self.new f s }
         ensures time { Elapses (moment self.old) (moment self.new) (left_since self.old) (left_since self.new) (bytes self.new) (may_hold self.new) }
         ensures cause { HasCause (is_known self.old × (lacks_memory self.new → ⊥)) (fault_count self.old) (fault_count self.new) result };

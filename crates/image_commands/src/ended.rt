@@ -7,23 +7,23 @@ use opened_files::Trouble;
 /// How a command ended that could read and write what it had to.
 #[derive(Drop)]
 pub enum Ended<'a> {
-    /// The store is good.
+    /// The store is good; two images are the same; a salvage lost nothing.
     Good,
-    /// It is refused.
+    /// The store is refused; they differ; it left something out.
     Refused,
     /// A merge is done, and synced, but could not be told.
     Untold(Trouble<'a>),
 }
 
 impl<'a> Ended<'a> {
-    /// By whether the store is good.
+    /// By whether all is good.
     pub fn of(good: bool) -> Ended<'a> {
         if good { Ended::Good } else { Ended::Refused }
     }
 }
 
-/// The exit status: 0 for a store that is good, 1 for one that is refused, 2 where something could not be read or written, 3
-/// where a merge is done that could not be told.
+/// The exit status: 0 where all is good, 1 where it is not, 2 where something could not be read or written, 3 where a merge is done
+/// that could not be told.
 pub fn status_of(done: &Result<Ended<'_>, Trouble<'_>>) -> u8
     ensures { result ≡ status_by done.now }
 {

@@ -1,6 +1,6 @@
 -- To be believed: what an origin and its store hold while another program writes them, and how a writer saves what it overwrites.
 -- The kernel's admin-guide page on snapshots says so in words: a chunk is copied to the store before the first write to it.
-use Rattle.std.specs.Prelude.{◌≡◌, ℕ, ◌+◌, ◌*◌, ◌/◌, ◌%◌, ◌<◌, ◌≤◌, List, length, take, slice_index, None, Some, Ok}
+use Rattle.std.specs.Prelude.{◌≡◌, ℕ, ◌+◌, ◌*◌, ◌/◌, ◌%◌, ◌<◌, ◌≤◌, List, length, take, slice_index, Option, None, Some, Ok}
 use Rattle.sector.specs.Bytes.{sector_at}
 use Rattle.cow_header.specs.HeaderText.{found_in}
 use Rattle.cow_header.specs.declared.found.Found.TheVariants.{Header}
@@ -11,6 +11,10 @@ use Rattle.store_bytes.specs.Picture.{place_of}
 pub record Files : Type 0 where
   pub origin : List ℕ
   pub store : List ℕ
+
+-- what is known of all moments of two files does not change
+abbrev pub SamePast : {S : Type 0} → (S → Option (ℕ → Files)) → S → S → Type 0
+SamePast history old new = history new ≡ history old
 
 -- Each byte was read at a moment of its own, from one to another: a read of many bytes may see a write in part.
 abbrev pub AreRead : (ℕ → List ℕ) → ℕ → ℕ → ℕ → List ℕ → Type 0

@@ -5,7 +5,7 @@ ghost use Rattle.std.specs.BTreeMap.{get as place_in};
 ghost use Rattle.store_bytes.specs.Places.{slot};
 ghost use Rattle.store_bytes.specs.Picture.{place_of};
 ghost use Rattle.store_bytes.specs.Slots.{pair_in};
-ghost use Rattle.live_snapshot.specs.Moments.{Files, IsSaving};
+ghost use Rattle.live_snapshot.specs.Moments.{Files, IsSaving, SamePast};
 ghost use Rattle.live_snapshot.specs.Known.{AreKnown, WereAll};
 
 use crate::files::MovingFiles;
@@ -63,7 +63,7 @@ fn read_slot<F: MovingFiles>(files: &mut F, chunk: u32, number: u64) -> Result<P
     requires some { 0 < chunk }
     requires allowed { chunk ≤ 1024 }
     ensures data { IfOk result (λ pair. IfSome (F.history files.old) (λ h. (m : ℕ) × (F.now files.old ≤ m) × (m ≤ F.now files.new) × (pair ≡ slot chunk (h m).store number))) }
-    ensures history { F.history files.new ≡ F.history files.old }
+    ensures history { SamePast F.history files.old files.new }
     ensures later { F.now files.old ≤ F.now files.new }
 {
     if MOST_PAIRS <= number {
@@ -84,7 +84,7 @@ fn read_slot<F: MovingFiles>(files: &mut F, chunk: u32, number: u64) -> Result<P
 fn last_stands<F: MovingFiles>(files: &mut F, chunk: u32, pairs: &Pairs) -> Result<(), Lost>
     requires some { 0 < chunk }
     requires allowed { chunk ≤ 1024 }
-    ensures history { F.history files.new ≡ F.history files.old }
+    ensures history { SamePast F.history files.old files.new }
     ensures later { F.now files.old ≤ F.now files.new }
 {
     let Some(last) = pairs.listed.last() else {
@@ -104,7 +104,7 @@ pub(crate) fn look<F: MovingFiles>(files: &mut F, chunk: u32, pairs: &mut Pairs)
     requires allowed { chunk ≤ 1024 }
     ensures known { (h : ℕ → Files) → F.history files.old ≡ Some h → IsSaving chunk h → AreKnown chunk h (F.now files.old) pairs.old.listed.items → AreKnown chunk h (F.now files.new) pairs.new.listed.items }
     ensures all { OnOk result ((h : ℕ → Files) → F.history files.old ≡ Some h → IsSaving chunk h → AreKnown chunk h (F.now files.old) pairs.old.listed.items → WereAll chunk h (F.now files.old) (F.now files.new) pairs.new.listed.items) }
-    ensures history { F.history files.new ≡ F.history files.old }
+    ensures history { SamePast F.history files.old files.new }
     ensures later { F.now files.old ≤ F.now files.new }
 {
     last_stands(files, chunk, pairs)?;

@@ -2,7 +2,7 @@
 ghost use Rattle.std.specs.Prelude.{◌≡◌, ℕ, ◌+◌, ◌*◌, ◌%◌, ◌^◌, ◌<◌, ◌≤◌, length, IfSome, OnOk, Some};
 ghost use Rattle.store_bytes.specs.Pairs.{pairs_of};
 ghost use Rattle.cow_image.specs.Shown.{shown};
-ghost use Rattle.live_snapshot.specs.Moments.{Files, AreRead, IsLive, IsSaving};
+ghost use Rattle.live_snapshot.specs.Moments.{Files, AreRead, IsLive, IsSaving, SamePast};
 ghost use Rattle.live_snapshot.specs.Known.{AreKnown, AreOfOrigin, AreShown};
 
 use crate::files::MovingFiles;
@@ -52,7 +52,7 @@ impl<F: MovingFiles> LiveSnapshot<F> {
     pub fn read(&mut self, at: u64, out: &mut [u8]) -> Result<(), Lost>
         requires inside { at + length out.old ≤ 512 * self.old.size }
         ensures saves { OnOk result ((h : ℕ → Files) → F.history self.old.files ≡ Some h → IsSaving self.old.chunk h → 512 * self.old.size ≤ length (h 0).origin → out.new ≡ shown self.old.chunk (h 0).origin (h 0).store (pairs_of self.old.chunk (h 0).store) at (length out.old)) }
-        ensures history { F.history self.new.files ≡ F.history self.old.files }
+        ensures history { SamePast F.history self.old.files self.new.files }
         ensures chunk { self.new.chunk ≡ self.old.chunk }
         ensures size { self.new.size ≡ self.old.size }
     {
@@ -77,7 +77,7 @@ fn put_copies<F: MovingFiles>(
     requires allowed { chunk ≤ 1024 }
     requires near { at + length out.old < 2 ^ 63 }
     ensures shown { OnOk result ((h : ℕ → Files) → (first read : ℕ) → F.history files.old ≡ Some h → AreOfOrigin chunk h first read (F.now files.old) pairs.now.listed.items at out.old → AreShown chunk h (F.now files.new) at out.new (length out.old)) }
-    ensures history { F.history files.new ≡ F.history files.old }
+    ensures history { SamePast F.history files.old files.new }
     ensures later { F.now files.old ≤ F.now files.new }
 {
     let bytes = 512 * chunk as u64;
@@ -103,7 +103,7 @@ fn put_part<F: MovingFiles>(
     requires allowed { chunk ≤ 1024 }
     requires inside { from % (512 * chunk) + length part.old ≤ 512 * chunk }
     ensures shown { OnOk result ((h : ℕ → Files) → (first read : ℕ) → F.history files.old ≡ Some h → AreOfOrigin chunk h first read (F.now files.old) pairs.now.listed.items from part.old → AreShown chunk h (F.now files.new) from part.new (length part.old)) }
-    ensures history { F.history files.new ≡ F.history files.old }
+    ensures history { SamePast F.history files.old files.new }
     ensures later { F.now files.old ≤ F.now files.new }
 {
     let bytes = 512 * chunk as u64;
@@ -122,7 +122,7 @@ fn put_copy<F: MovingFiles>(
     part: &mut [u8],
 ) -> Result<(), Lost>
     ensures data { OnOk result (IfSome (F.history files.old) (λ h. AreRead (λ m. (h m).store) (F.now files.old) (F.now files.new) (bytes * place + inside) part.new)) }
-    ensures history { F.history files.new ≡ F.history files.old }
+    ensures history { SamePast F.history files.old files.new }
     ensures later { F.now files.old ≤ F.now files.new }
 {
     let Some(at) = byte_in(bytes, place, inside) else {
@@ -144,7 +144,7 @@ fn byte_in(bytes: u64, number: u64, inside: u64) -> Option<u64>
 /// Sees that the header is still good.
 fn is_live<F: MovingFiles>(files: &mut F, chunk: u32) -> Result<(), Lost>
     ensures live { OnOk result (IfSome (F.history files.old) (λ h. (m : ℕ) × (F.now files.old ≤ m) × IsLive chunk (h m))) }
-    ensures history { F.history files.new ≡ F.history files.old }
+    ensures history { SamePast F.history files.old files.new }
     ensures later { F.now files.old ≤ F.now files.new }
 {
     let mut first = [0u8; 512];

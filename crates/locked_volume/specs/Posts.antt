@@ -8,6 +8,7 @@ use Rattle.plain_machine.specs.declared.event.Event.{Event}
 use Rattle.plain_machine.specs.declared.event.Event.TheVariants.{Issue, CopyRead, CopyWrite, ZeroNext, WriteArea, Publish, WriteInvalid, FlushStore, MergeGroup, MergeAreaRead, MergeRead, MergeWrite, MergeFlush, MergeCommit, MergeRelease}
 use Rattle.audit.specs.declared.entry.Entry.{Entry}
 use Rattle.audit.specs.Books.{AuditShape}
+use Rattle.locked_volume.specs.Boards.{AreKeptUp}
 use Rattle.locked_volume.specs.declared.rule.View.{View}
 use Rattle.locked_volume.specs.declared.told.Told.{Told}
 use Rattle.locked_volume.specs.Fixed.{Fixed, StaysFrom, fixed_of}
@@ -17,6 +18,10 @@ pub record PostShape (B : Type 0) : Type 0 where
   pub volume : ℕ
   pub audit : AuditShape B
   pub told : List Seen
+
+-- each usage that changed is told on its board
+abbrev pub TellsUsages : {B : Type 0} → PostShape B → PostShape B → Type 0
+TellsUsages old new = AreKeptUp new.audit.volume old.told new.told
 
 -- a keeper's pass
 pub record IsKeeper (history : TableId) (keeper : Seat Told View) : Type 0 where

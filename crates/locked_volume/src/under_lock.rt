@@ -22,9 +22,8 @@ ghost use Rattle.sector.specs.declared.refusal.Refusal.TheVariants.{NotQuiet};
 ghost use Rattle.locked_volume.specs.AskedFor.{AddsAskedFor};
 ghost use Rattle.locked_volume.specs.Beside.{IsBeside};
 ghost use Rattle.locked_volume.specs.Denying.{Begin, Serve, WasBegun, WasDenied};
-ghost use Rattle.locked_volume.specs.Boards.{AreKeptUp};
 ghost use Rattle.locked_volume.specs.Fixed.{StaysFrom, count_at, fixed_of, piece_at};
-ghost use Rattle.locked_volume.specs.Posts.{is_apart};
+ghost use Rattle.locked_volume.specs.Posts.{TellsUsages, is_apart};
 ghost use Rattle.locked_volume.specs.Seats.{IsAsked, IsReceipted, IsSameSeat, IsSeat};
 
 use crate::Pass;
@@ -100,7 +99,7 @@ impl<B: Layered, J: Room> Post<B, J> {
         ensures denied { IfErr result.1 (λ refusal. WasDenied (J.start self.old.volume) (J.fixed self.old.volume) result.0.me.0.seen (Serve request) refusal) }
         ensures refused { IfErr result.1 (λ refusal. IsNotSubmitted B.contents B.layers B.size request refusal self.old.audit self.new.audit) }
         ensures does { DoesSubmit B.contents B.layers B.size request result.1 self.old.audit.volume self.new.audit.volume }
-        ensures told { AreKeptUp self.new.audit.volume self.old.told self.new.told }
+        ensures told { TellsUsages self.old self.new }
     {
         let said = Snapshot::of(&request);
         let from = self.audit.entries().len();
@@ -139,7 +138,7 @@ impl<B: Layered, J: Room> Post<B, J> {
         ensures seat { MatchOption result.1 (IsSameSeat (J.history self.old.volume) seat me result.0) (λ r. IsReceipted (J.history self.old.volume) (count_at (J.fixed self.old.volume) (J.start self.old.volume) seat) seat me result.0 r.0 r.1) }
         ensures done { IfSome result.1 (λ _. (outcome : OutcomeShape) × IsExact B.contents B.layers (Issue number) outcome self.old.audit.volume self.new.audit.volume) }
         ensures still { ((x : Seated) → seated_under number self.old.audit.held ≡ Some x → x.request.op ≢ Flush) → IfNone result.1 (self.new ≡ self.old) }
-        ensures told { AreKeptUp self.new.audit.volume self.old.told self.new.told }
+        ensures told { TellsUsages self.old self.new }
     {
         self.audit.look_at_requests();
         let from = self.audit.entries().len();
@@ -174,7 +173,7 @@ impl<B: Layered, J: Room> Post<B, J> {
         ensures first { next_of B.contents B.layers self.old.audit.volume ≡ Some event → result ≡ true }
         ensures done { result ≡ true → (is_due_of B.contents B.layers self.old.audit.volume event ≡ true) × ((outcome : OutcomeShape) × IsExact B.contents B.layers event outcome self.old.audit.volume self.new.audit.volume) }
         ensures still { result ≡ false → self.new ≡ self.old }
-        ensures told { AreKeptUp self.new.audit.volume self.old.told self.new.told }
+        ensures told { TellsUsages self.old self.new }
     {
         let from = self.audit.entries().len();
         match self.audit.apply(0, event) {
@@ -196,7 +195,7 @@ impl<B: Layered, J: Room> Post<B, J> {
         ensures volume { self.new.volume ≡ self.old.volume }
         ensures done { result ≡ true → (event : EventShape) × (outcome : OutcomeShape) × (next_of B.contents B.layers self.old.audit.volume ≡ Some event) × IsExact B.contents B.layers event outcome self.old.audit.volume self.new.audit.volume }
         ensures still { result ≡ false → (self.new ≡ self.old) × IfSome (next_of B.contents B.layers self.old.audit.volume) (λ event. is_apart event ≡ true) }
-        ensures told { AreKeptUp self.new.audit.volume self.old.told self.new.told }
+        ensures told { TellsUsages self.old self.new }
     {
         let Some(event) = self.audit.volume().due() else {
             return false;
@@ -239,7 +238,7 @@ impl<B: Layered, J: Room> Post<B, J> {
         ensures refused { IfErr result.1 (λ refusal. IsNotMerged number refusal self.old.audit self.new.audit) }
         ensures busy { IfErr result.1 (λ refusal. refusal ≡ NotQuiet → is_quiet_of self.old.audit.volume ≡ false) }
         ensures does { DoesBeginMerge B.may_hold B.contents B.layers B.size number result.1 self.old.audit.volume self.new.audit.volume }
-        ensures told { AreKeptUp self.new.audit.volume self.old.told self.new.told }
+        ensures told { TellsUsages self.old self.new }
     {
         look_at_bounds(&self.audit);
         let me = beside.history.look(&mut self.keeper, me);

@@ -1,5 +1,5 @@
 -- The jobs of a connection, and the pieces of them that are out, as contracts see them; and what becomes of both.
-use Rattle.std.specs.Prelude.{◌≡◌, ◌==◌, ℕ, List, [], ◌∷◌, ◌++◌, length, map, Option, Some, None, MatchOption, slice_index_or, slice_set}
+use Rattle.std.specs.Prelude.{◌≡◌, ◌==◌, ◌<◌, ℕ, List, [], ◌∷◌, ◌++◌, length, map, Option, Some, None, IfSome, MatchOption, slice_index_or, slice_set}
 use Rattle.std.specs.List.{position, remove}
 use Rattle.nbd_messages.specs.declared.errors.ErrorValue.{ErrorValue}
 use Rattle.nbd_messages.specs.declared.request.Request.{Request}
@@ -19,6 +19,17 @@ asked_by jobs = map (λ j. j.request) jobs
 -- the requests that are not answered
 abbrev pub requests_of : Held → List Request
 requests_of held = asked_by held.jobs
+
+-- these stay
+abbrev pub KeepsAsked : List JobState → List JobState → Type 0
+KeepsAsked old new = asked_by new ≡ asked_by old
+
+abbrev pub KeepsRequests : Held → Held → Type 0
+KeepsRequests old new = requests_of new ≡ requests_of old
+
+-- a place that is told is one of a list
+abbrev pub IsPlaceIn : {A : Type 0} → Option ℕ → List A → Type 0
+IsPlaceIn told list = IfSome told (λ k. k < length list)
 
 -- a job that begins
 abbrev pub opened : Request → ℕ → List ℕ → JobState

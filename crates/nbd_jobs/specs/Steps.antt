@@ -79,6 +79,10 @@ IsBegun sectors Lasting = true
 IsBegun sectors Flushing = true
 IsBegun sectors Done = true
 
+-- a stage of the job of this request
+abbrev pub IsStageOf : Request → Stage → Type 0
+IsStageOf request stage = IsBegun (sectors_of request) stage ≡ true
+
 -- the sectors of the piece that begins at a sector, where so many are left of the request: up to the chunk's end
 abbrev pub piece_len : ℕ → ℕ → ℕ → ℕ
 piece_len chunk first left = min left (chunk - first % chunk)

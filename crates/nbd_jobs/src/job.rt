@@ -1,7 +1,7 @@
 // A request that is not answered yet.
 ghost use Rattle.std.specs.Prelude.{◌≡◌, ℕ, ◌+◌, ◌-◌, ◌*◌, ◌/◌, ◌<◌, ◌≤◌, Bool, true, None, IfSome, List, length, min, nat_lt, slice_range, if◌then◌else◌};
 ghost use Rattle.nbd_messages.specs.Writing.{must_last as must_last_of, writes as writes_by};
-ghost use Rattle.nbd_jobs.specs.Steps.{IsBegun, IsInside, IsWithin, room_of, first_of, sectors_of, kind_by, beginning, piece_len as piece_len_of, next_piece as next_piece_of, work_at, a_flush, has_work as has_work_of, is_done as is_done_of, handed, handed_at, settled, settled_at, stopped_at, first_error, failed, filled};
+ghost use Rattle.nbd_jobs.specs.Steps.{IsInside, IsStageOf, IsWithin, room_of, first_of, sectors_of, kind_by, beginning, piece_len as piece_len_of, next_piece as next_piece_of, work_at, a_flush, has_work as has_work_of, is_done as is_done_of, handed, handed_at, settled, settled_at, stopped_at, first_error, failed, filled};
 
 use crate::bytes::Bytes;
 use crate::work::{Kind, Work};
@@ -217,7 +217,7 @@ impl Job {
     fn handed_stage(&self, chunk: u32) -> Stage
         requires { 0 < chunk }
         ensures is { result ≡ handed_at chunk self.now.request self.now.stage }
-        ensures begun { IsBegun (sectors_of self.now.request) result ≡ true }
+        ensures begun { IsStageOf self.now.request result }
     {
         match self.stage {
             Stage::Moving(sent) => {
@@ -242,7 +242,7 @@ impl Job {
     /// The stage once a piece of it is back; `out` tells whether others are out.
     fn settled_stage(&self, out: bool) -> Stage
         ensures is { result ≡ settled_at out self.now.request self.now.error self.now.stage }
-        ensures begun { IsBegun (sectors_of self.now.request) result ≡ true }
+        ensures begun { IsStageOf self.now.request result }
     {
         match self.stage {
             Stage::Moving(sent) => {
@@ -273,7 +273,7 @@ impl Job {
     /// The stage in which nothing more of it is handed out.
     fn stopped_stage(&self) -> Stage
         ensures is { result ≡ stopped_at self.now.request self.now.stage }
-        ensures begun { IsBegun (sectors_of self.now.request) result ≡ true }
+        ensures begun { IsStageOf self.now.request result }
     {
         match self.stage {
             Stage::Moving(_) => Stage::Moving(self.sectors()),

@@ -3,7 +3,7 @@ ghost use Rattle.std.specs.Prelude.{◌≡◌, ◌==◌, ℕ, ◌+◌, ◌<◌, 
 ghost use Rattle.std.specs.List.{position, remove};
 ghost use Rattle.nbd_jobs.specs.declared.jobs.Piece.{Piece as PieceOf};
 ghost use Rattle.nbd_jobs.specs.Steps.{JobState, room_of, has_work, is_done, is_out as is_out_of, sent_of, handed, failed, filled, settled};
-ghost use Rattle.nbd_jobs.specs.Held.{Held, opened, Became, IsBackAt, asked_by, failed_by, requests_of, taken_back};
+ghost use Rattle.nbd_jobs.specs.Held.{Held, opened, Became, IsBackAt, IsPlaceIn, KeepsAsked, KeepsRequests, failed_by, taken_back};
 
 use crate::bytes::Bytes;
 use crate::job::{Job, Stage};
@@ -114,7 +114,7 @@ impl Jobs {
     /// The place of the first job of which something is to be done next.
     pub fn next(&self) -> Option<usize>
         ensures is { result ≡ position has_work self.now.jobs }
-        ensures inside { IfSome result (λ k. k < length self.now.jobs) }
+        ensures inside { IsPlaceIn result self.now.jobs }
     {
         self.list.iter().position(|job| job.has_work())
     }
@@ -125,7 +125,7 @@ impl Jobs {
         requires some { 0 < chunk }
         requires few { length self.old.out < 64 }
         ensures given { self.new.given ≡ self.old.given }
-        ensures asked { requests_of self.new ≡ requests_of self.old }
+        ensures asked { KeepsRequests self.old self.new }
         ensures jobs { OnOk result (Became place (handed chunk) self.old.jobs self.new.jobs) }
         ensures out { OnOk result ((d : JobState) → self.new.out ≡ self.old.out ++ record { number = number; serial = (slice_index_or self.old.jobs place d).serial; at = sent_of (slice_index_or self.old.jobs place d).stage } ∷ []) }
         ensures err { OnErr result (self.new ≡ self.old) }
@@ -144,7 +144,7 @@ impl Jobs {
         requires { place < length self.old.jobs }
         ensures given { self.new.given ≡ self.old.given }
         ensures out { self.new.out ≡ self.old.out }
-        ensures asked { requests_of self.new ≡ requests_of self.old }
+        ensures asked { KeepsRequests self.old self.new }
         ensures jobs { Became place (λ j. settled (is_out_of self.old.out j.serial) (failed error j)) self.old.jobs self.new.jobs }
     {
         refuse_at(&mut self.list, place, error, self.out.as_slice());
@@ -153,7 +153,7 @@ impl Jobs {
     /// The place of the piece that has a number.
     fn piece_at(&self, number: u64) -> Option<usize>
         ensures is { result ≡ position (λ p. p.number == number) self.now.out }
-        ensures inside { IfSome result (λ k. k < length self.now.out) }
+        ensures inside { IsPlaceIn result self.now.out }
     {
         self.out.iter().position(|piece| piece.number == number)
     }
@@ -173,7 +173,7 @@ impl Jobs {
     /// The place of the job that has a number.
     fn job_at(&self, serial: u64) -> Option<usize>
         ensures is { result ≡ position (λ j. j.serial == serial) self.now.jobs }
-        ensures inside { IfSome result (λ k. k < length self.now.jobs) }
+        ensures inside { IsPlaceIn result self.now.jobs }
     {
         self.list.iter().position(|job| job.serial == serial)
     }
@@ -183,7 +183,7 @@ impl Jobs {
         ensures out { self.new.out ≡ self.old.out }
         ensures given { self.new.given ≡ self.old.given }
         ensures jobs { IsBackAt piece part.now error self.old.out self.old.jobs self.new.jobs }
-        ensures asked { requests_of self.new ≡ requests_of self.old }
+        ensures asked { KeepsRequests self.old self.new }
     {
         match self.job_at(piece.serial) {
             Some(place) => take_back_at(
@@ -213,7 +213,7 @@ impl Jobs {
     /// The place of the first job that may be answered.
     fn done_at(&self) -> Option<usize>
         ensures is { result ≡ position is_done self.now.jobs }
-        ensures inside { IfSome result (λ k. k < length self.now.jobs) }
+        ensures inside { IsPlaceIn result self.now.jobs }
     {
         self.list.iter().position(|job| job.is_done())
     }
@@ -267,7 +267,7 @@ fn hand_out_at(list: &mut Vec<Job>, place: usize, chunk: u32)
     requires inside { place < length list.old.items }
     requires some { 0 < chunk }
     ensures jobs { Became place (handed chunk) list.old.items list.new.items }
-    ensures asked { asked_by list.new.items ≡ asked_by list.old.items }
+    ensures asked { KeepsAsked list.old.items list.new.items }
 {
     let job = &mut list[place];
     job.hand_out(chunk);
@@ -278,7 +278,7 @@ fn hand_out_at(list: &mut Vec<Job>, place: usize, chunk: u32)
 fn refuse_at(list: &mut Vec<Job>, place: usize, error: ErrorValue, out: &[Piece])
     requires { place < length list.old.items }
     ensures jobs { Became place (λ j. settled (is_out_of out.now j.serial) (failed error j)) list.old.items list.new.items }
-    ensures asked { asked_by list.new.items ≡ asked_by list.old.items }
+    ensures asked { KeepsAsked list.old.items list.new.items }
 {
     let job = &mut list[place];
     let is_out = is_out(out, job.serial);
@@ -298,7 +298,7 @@ fn take_back_at(
 )
     requires { place < length list.old.items }
     ensures jobs { Became place (taken_back out.now piece part.now error) list.old.items list.new.items }
-    ensures asked { asked_by list.new.items ≡ asked_by list.old.items }
+    ensures asked { KeepsAsked list.old.items list.new.items }
 {
     let is_out = is_out(out, piece.serial);
     let job = &mut list[place];

@@ -1,5 +1,5 @@
 -- How far a connection has come: what was asked of it, what was answered, and what the array was asked.
-use Rattle.std.specs.Prelude.{◌≡◌, ℕ, Bool, List, ◌∷◌, ◌++◌, map, Option, None}
+use Rattle.std.specs.Prelude.{◌≡◌, ℕ, Bool, List, [], ◌∷◌, ◌++◌, map, Option, None, Result, OnOk}
 use Rattle.std.specs.List.{All, flat_map}
 use Rattle.std.specs.List.Sorted.{IsPermutation}
 use Rattle.std.specs.Io.KnownBytes.{Appends, append_known}
@@ -64,6 +64,9 @@ pub record Moves (old new : Line) (reader reader' writer writer' : Option (List 
 abbrev pub MovesUnsaid : Line → Line → Type 0
 MovesUnsaid old new = (known contents : Option (List ℕ)) (calls : List Call) → Moves old new known known contents contents calls calls
 
+abbrev pub MovesUnsaidOnOk : {T E : Type 0} → Result T E → Line → Line → Type 0
+MovesUnsaidOnOk result old new = OnOk result (MovesUnsaid old new)
+
 -- where the array was not to be written any more
 abbrev pub MovesEnded : Line → Line → Type 0
 MovesEnded old new = (known contents : Option (List ℕ)) (calls : List Call) → Moves old new known known contents contents (Step Ended ∷ calls) (Step Ended ∷ calls)
@@ -79,3 +82,11 @@ MovesSaying old new writer writer' calls calls' = (known : Option (List ℕ)) �
 -- where something is heard, and nothing is said
 abbrev pub MovesHearing : Line → Line → Option (List ℕ) → Option (List ℕ) → Type 0
 MovesHearing old new reader reader' = (contents : Option (List ℕ)) (calls : List Call) → Moves old new reader reader' contents contents calls calls
+
+-- a line without a job stays so
+abbrev pub StaysFree : Line → Line → Type 0
+StaysFree old new = old.jobs.jobs ≡ [] → new.jobs.jobs ≡ []
+
+-- no job is left, and nothing is to be said
+abbrev pub IsClear : Line → Type 0
+IsClear line = (line.jobs.jobs ≡ []) × (line.out.items ≡ [])

@@ -1,5 +1,5 @@
 -- What came of a look for the next request.
-use Rattle.std.specs.Prelude.{◌≡◌, ℕ, ◌+◌, Bool, true, false, ⊤, List, [], ◌∷◌, ◌++◌, replicate, slice_range}
+use Rattle.std.specs.Prelude.{◌≡◌, ℕ, ◌+◌, Bool, true, false, ⊤, List, [], ◌∷◌, ◌++◌, replicate, slice_range, Result, IfOk}
 use Rattle.nbd_messages.specs.declared.command.Command.{Command}
 use Rattle.nbd_messages.specs.declared.command.Command.TheVariants.{Read, Write, Disconnect, Flush, Trim, WriteZeroes, BlockStatus, Other}
 use Rattle.nbd_messages.specs.declared.request.Request.{Request}
@@ -7,6 +7,7 @@ use Rattle.nbd_messages.specs.Writing.{payload}
 use Rattle.nbd_jobs.specs.Held.{Held, opened}
 use Rattle.nbd_session.specs.Asked.{IsOver}
 use Rattle.nbd_session.specs.Stream.{Stream, dropped, rest_of}
+use Rattle.nbd_session.specs.declared.line.Line.{Line}
 use Rattle.nbd_session.specs.declared.taking.Took.{Took}
 use Rattle.nbd_session.specs.declared.taking.Took.TheVariants.{One, None, Full, Over}
 
@@ -42,3 +43,7 @@ IsOverAt size One input = ⊤
 IsOverAt size None input = IsOver size (rest_of input [])
 IsOverAt size Full input = ⊤
 IsOverAt size Over input = (bytes : List ℕ) → IsOver size (rest_of input bytes)
+
+-- so it is with a line behind a look at it, where the look did not fail
+abbrev pub IsOverAfter : {E : Type 0} → Result Took E → Line → Type 0
+IsOverAfter result line = IfOk result (λ took. IsOverAt line.size took line.input)

@@ -1,10 +1,10 @@
 // A client is served.
-ghost use Rattle.std.specs.Prelude.{◌≡◌, ℕ, List, [], false, IfOk, IfSome, None, OnErr, Some};
+ghost use Rattle.std.specs.Prelude.{◌≡◌, ℕ, List, false, IfOk, IfSome, None, OnOk, Some};
 ghost use Rattle.std.specs.Io.KnownBytes.{Appends, IsAtEnd};
 ghost use Rattle.served_array.specs.Calls.{Call, Called, CallsTo};
 ghost use Rattle.nbd_session.specs.Asked.{IsOver};
-ghost use Rattle.nbd_session.specs.Moved.{Moves, MovesCalling, MovesHearing};
-ghost use Rattle.nbd_session.specs.Reached.{Reaches};
+ghost use Rattle.nbd_session.specs.Moved.{IsClear, Moves, MovesCalling, MovesHearing, StaysFree};
+ghost use Rattle.nbd_session.specs.Reached.{Reached};
 ghost use Rattle.nbd_session.specs.Session.{IsSession};
 ghost use Rattle.nbd_session.specs.Stream.{left};
 ghost use Rattle.nbd_session.specs.Took.{IsOverAt};
@@ -33,7 +33,7 @@ impl Line {
         ensures input { self.new.input ≡ self.old.input }
         ensures size { self.new.size ≡ self.old.size }
         ensures out { self.new.out.items ≡ self.old.out.items }
-        ensures none { self.old.jobs.jobs ≡ [] → self.new.jobs.jobs ≡ [] }
+        ensures none { StaysFree self.old self.new }
     {
         match array.step() {
             Stepped::Still => false,
@@ -54,7 +54,7 @@ impl Line {
         ensures input { self.new.input ≡ self.old.input }
         ensures size { self.new.size ≡ self.old.size }
         ensures out { self.new.out.items ≡ self.old.out.items }
-        ensures none { self.old.jobs.jobs ≡ [] → self.new.jobs.jobs ≡ [] }
+        ensures none { StaysFree self.old self.new }
     {
         for _ in 0..MOST_IDLE {
             if !self.idle_step(array) {
@@ -124,8 +124,8 @@ impl Line {
         writer: &mut W,
     ) -> Result<Finish, Ended>
         ensures moves { IfOk result (λ _. CallsTo A.does array.old array.new (Moves self.old self.new (R.remaining reader.old) (R.remaining reader.new) (W.contents writer.old) (W.contents writer.new))) }
-        ensures called { OnErr result (Reaches A.does array.old array.new) }
-        ensures none { IfOk result (λ _. (self.new.jobs.jobs ≡ []) × (self.new.out.items ≡ [])) }
+        ensures called { Reached A.does result array.old array.new }
+        ensures none { OnOk result (IsClear self.new) }
         ensures over { result ≡ Ok Client → IfSome (left self.new.input (R.remaining reader.new)) (IsOver self.old.size) }
     {
         let mut hears = true;
@@ -157,7 +157,7 @@ pub fn serve<A: Array, R: Read, W: Write>(
     writer: &mut W,
 ) -> Result<Finish, Ended>
     ensures session { IfOk result (λ finish. (calls : List Call) × Called A.does array.old calls array.new × IfSome (R.remaining reader.old) (λ bytes. (said : List ℕ) × IsSession exports.now finish calls bytes said × Appends (W.contents writer.old) (W.contents writer.new) said)) }
-    ensures called { OnErr result (Reaches A.does array.old array.new) }
+    ensures called { Reached A.does result array.old array.new }
 {
     let mut input = Input::new(alloc)?;
     let Some((place, structured)) = chosen(alloc, exports, &mut input, reader, writer)? else {

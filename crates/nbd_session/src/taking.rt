@@ -5,8 +5,8 @@ ghost use Rattle.nbd_messages.specs.Writing.{payload as payload_of};
 ghost use Rattle.nbd_messages.specs.declared.command.Command.TheVariants.{Disconnect};
 ghost use Rattle.nbd_jobs.specs.Refused.{refusal_of};
 ghost use Rattle.nbd_jobs.specs.Steps.{room_of};
-ghost use Rattle.nbd_session.specs.Moved.{MovesUnsaid};
-ghost use Rattle.nbd_session.specs.Took.{IsOverAt, IsTakenIn, is_one, kept_by};
+ghost use Rattle.nbd_session.specs.Moved.{MovesUnsaid, MovesUnsaidOnOk};
+ghost use Rattle.nbd_session.specs.Took.{IsOverAfter, IsTakenIn, is_one, kept_by};
 
 use crate::ended::Ended;
 use crate::line::Line;
@@ -89,8 +89,8 @@ impl Line {
         requires good { refusal_of self.old.size request ≡ None }
         requires short { room_of request ≤ 33_554_432 }
         ensures took { IfOk result (λ took. MatchBool (is_one took) (IsTakenIn request self.old.input self.new.input self.old.jobs self.new.jobs) (self.new ≡ self.old)) }
-        ensures moves { IfOk result (λ _. MovesUnsaid self.old self.new) }
-        ensures over { IfOk result (λ took. IsOverAt self.new.size took self.new.input) }
+        ensures moves { MovesUnsaidOnOk result self.old self.new }
+        ensures over { IsOverAfter result self.new }
     {
         if MOST_JOBS <= self.jobs.len() || MOST_BYTES <= self.held {
             return Ok(Took::Full);
@@ -121,8 +121,8 @@ impl Line {
         requires wanted { self.old.input.unwanted ≡ 0 }
         requires is { request_in_of (take 28 self.old.input.heard) ≡ Some request }
         requires stays { request.command ≡ Disconnect → ⊥ }
-        ensures moves { IfOk result (λ _. MovesUnsaid self.old self.new) }
-        ensures over { IfOk result (λ took. IsOverAt self.new.size took self.new.input) }
+        ensures moves { MovesUnsaidOnOk result self.old self.new }
+        ensures over { IsOverAfter result self.new }
     {
         match refusal(self.size, &request) {
             Some(error) => {
@@ -135,8 +135,8 @@ impl Line {
 
     /// Takes the next request, if it is there as a whole.
     fn take(&mut self, alloc: Global) -> Result<Took, Ended>
-        ensures moves { IfOk result (λ _. MovesUnsaid self.old self.new) }
-        ensures over { IfOk result (λ took. IsOverAt self.new.size took self.new.input) }
+        ensures moves { MovesUnsaidOnOk result self.old self.new }
+        ensures over { IsOverAfter result self.new }
     {
         if self.input.len() < REQUEST_BYTES {
             return Ok(Took::None);
@@ -152,8 +152,8 @@ impl Line {
 
     /// Takes all requests that are there as a whole, and tells why no more are taken.
     pub fn take_all(&mut self, alloc: Global) -> Result<Took, Ended>
-        ensures moves { IfOk result (λ _. MovesUnsaid self.old self.new) }
-        ensures over { IfOk result (λ took. IsOverAt self.new.size took self.new.input) }
+        ensures moves { MovesUnsaidOnOk result self.old self.new }
+        ensures over { IsOverAfter result self.new }
     {
         for _ in 0..u64::MAX {
             match self.take(alloc)? {

@@ -1,11 +1,11 @@
 // Pieces of jobs are given to the array, and come back.
-ghost use Rattle.std.specs.Prelude.{◌≡◌, ◌<◌, ◌∷◌, [], IfOk, List, OnErr, OnOk, Some, length, slice_index_or};
+ghost use Rattle.std.specs.Prelude.{◌≡◌, ◌<◌, ◌∷◌, [], IfOk, List, OnOk, Some, length, slice_index_or};
 ghost use Rattle.nbd_jobs.specs.Steps.{IsInside, JobState, work_at};
 ghost use Rattle.served_array.specs.Calls.{Call, CallsTo, Step, Submit};
 ghost use Rattle.served_array.specs.declared.array.Stepped.TheVariants.{Back as Returned, Ended as IsEnded};
-ghost use Rattle.nbd_session.specs.Moved.{MovesCalling, MovesEnded, MovesSaying, MovesUnsaid};
+ghost use Rattle.nbd_session.specs.Moved.{IsClear, MovesCalling, MovesEnded, MovesSaying, MovesUnsaid, StaysFree};
 ghost use Rattle.nbd_session.specs.Pieces.{part_by};
-ghost use Rattle.nbd_session.specs.Reached.{Reaches};
+ghost use Rattle.nbd_session.specs.Reached.{Reached};
 ghost use Rattle.nbd_session.specs.declared.working.Went.TheVariants.{Stopped};
 
 use crate::ended::{Ended, Finish};
@@ -69,7 +69,7 @@ impl Line {
         requires inside { (d : JobState) → IsInside (length (slice_index_or self.old.jobs.jobs place d).bytes) work }
         requires next { (d : JobState) → work_at self.old.chunk (slice_index_or self.old.jobs.jobs place d).request (slice_index_or self.old.jobs.jobs place d).serial (slice_index_or self.old.jobs.jobs place d).stage ≡ Some work }
         ensures moves { IfOk result (λ _. CallsTo A.does array.old array.new (MovesCalling self.old self.new)) }
-        ensures called { OnErr result (Reaches A.does array.old array.new) }
+        ensures called { Reached A.does result array.old array.new }
     {
         match given(alloc, array, self.jobs.get(place), work) {
             Ok(number) => {
@@ -87,7 +87,7 @@ impl Line {
     /// Gives the next piece of the first job that has one. `false` where there is none, or no room.
     fn give_next<A: Array>(&mut self, alloc: Global, array: &mut A) -> Result<bool, Ended>
         ensures moves { IfOk result (λ _. CallsTo A.does array.old array.new (MovesCalling self.old self.new)) }
-        ensures called { OnErr result (Reaches A.does array.old array.new) }
+        ensures called { Reached A.does result array.old array.new }
     {
         if MOST_PIECES <= self.jobs.pieces() {
             return Ok(false);
@@ -104,7 +104,7 @@ impl Line {
     /// Gives pieces while there are some, and room.
     pub fn give_all<A: Array>(&mut self, alloc: Global, array: &mut A) -> Result<(), Ended>
         ensures moves { OnOk result (CallsTo A.does array.old array.new (MovesCalling self.old self.new)) }
-        ensures called { OnErr result (Reaches A.does array.old array.new) }
+        ensures called { Reached A.does result array.old array.new }
     {
         for _ in 0..u64::MAX {
             if !self.give_next(alloc, array)? {
@@ -120,7 +120,7 @@ impl Line {
         ensures input { self.new.input ≡ self.old.input }
         ensures size { self.new.size ≡ self.old.size }
         ensures out { self.new.out.items ≡ self.old.out.items }
-        ensures none { self.old.jobs.jobs ≡ [] → self.new.jobs.jobs ≡ [] }
+        ensures none { StaysFree self.old self.new }
     {
         match self.jobs.take_piece(number) {
             Some(piece) => self.jobs.take_back(piece, bytes, error),
@@ -185,7 +185,7 @@ impl Line {
     /// The array is not to be written any more: what is not done is answered EIO.
     fn end<W: Write>(&mut self, writer: &mut W) -> Result<(), Ended>
         ensures moves { OnOk result ((calls : List Call) → MovesSaying self.old self.new (W.contents writer.old) (W.contents writer.new) (Step IsEnded ∷ calls) (Step IsEnded ∷ calls)) }
-        ensures none { OnOk result ((self.new.jobs.jobs ≡ []) × (self.new.out.items ≡ [])) }
+        ensures none { OnOk result (IsClear self.new) }
     {
         self.answer()?;
         self.fail_all()?;
@@ -211,7 +211,7 @@ impl Line {
         writer: &mut W,
     ) -> Result<(), Ended>
         ensures moves { OnOk result (CallsTo A.does array.old array.new (MovesSaying self.old self.new (W.contents writer.old) (W.contents writer.new))) }
-        ensures called { OnErr result (Reaches A.does array.old array.new) }
+        ensures called { Reached A.does result array.old array.new }
     {
         self.tell(writer)?;
         self.give_all(alloc, array)?;
@@ -226,8 +226,8 @@ impl Line {
         writer: &mut W,
     ) -> Result<Went, Ended>
         ensures moves { IfOk result (λ _. CallsTo A.does array.old array.new (MovesSaying self.old self.new (W.contents writer.old) (W.contents writer.new))) }
-        ensures called { OnErr result (Reaches A.does array.old array.new) }
-        ensures stopped { result ≡ Ok Stopped → (self.new.jobs.jobs ≡ []) × (self.new.out.items ≡ []) }
+        ensures called { Reached A.does result array.old array.new }
+        ensures stopped { result ≡ Ok Stopped → IsClear self.new }
     {
         match array.step() {
             Stepped::Still => Ok(Went::Still),
@@ -256,8 +256,8 @@ impl Line {
         writer: &mut W,
     ) -> Result<Went, Ended>
         ensures moves { IfOk result (λ _. CallsTo A.does array.old array.new (MovesSaying self.old self.new (W.contents writer.old) (W.contents writer.new))) }
-        ensures called { OnErr result (Reaches A.does array.old array.new) }
-        ensures stopped { result ≡ Ok Stopped → (self.new.jobs.jobs ≡ []) × (self.new.out.items ≡ []) }
+        ensures called { Reached A.does result array.old array.new }
+        ensures stopped { result ≡ Ok Stopped → IsClear self.new }
     {
         let mut went = Went::Still;
         for _ in 0..u64::MAX {
@@ -279,7 +279,7 @@ impl Line {
         writer: &mut W,
     ) -> Result<Went, Ended>
         ensures moves { IfOk result (λ _. CallsTo A.does array.old array.new (MovesSaying self.old self.new (W.contents writer.old) (W.contents writer.new))) }
-        ensures called { OnErr result (Reaches A.does array.old array.new) }
+        ensures called { Reached A.does result array.old array.new }
         ensures out { IfOk result (λ _. self.new.out.items ≡ []) }
         ensures stopped { result ≡ Ok Stopped → self.new.jobs.jobs ≡ [] }
     {
@@ -310,8 +310,8 @@ impl Line {
         writer: &mut W,
     ) -> Result<Finish, Ended>
         ensures moves { IfOk result (λ _. CallsTo A.does array.old array.new (MovesSaying self.old self.new (W.contents writer.old) (W.contents writer.new))) }
-        ensures called { OnErr result (Reaches A.does array.old array.new) }
-        ensures none { IfOk result (λ _. (self.new.jobs.jobs ≡ []) × (self.new.out.items ≡ [])) }
+        ensures called { Reached A.does result array.old array.new }
+        ensures none { OnOk result (IsClear self.new) }
     {
         self.say(writer)?;
         for _ in 0..u64::MAX {

@@ -20,3 +20,7 @@ IsNotReady chunk size bytes (Refused refusal) =
     ((refusal ≡ BadChunk) × (is_chunk chunk ≡ false))
     ⊎ ((refusal ≡ StoreTooSmall) × (size < 2 * chunk))
     ⊎ (found_in (sector_at bytes 0) ≡ Err refusal)
+
+-- a store could not be read, or memory is refused for that
+abbrev pub IsReadFailure : NotOpened → Type 0
+IsReadFailure e = (e ≡ StoreFailed) ⊎ (e ≡ NoMemory)

@@ -1,7 +1,7 @@
 // The areas of a written store are read ahead.
-ghost use Rattle.std.specs.Prelude.{◌≡◌, ◌⊎◌, ◌+◌, ◌<◌, ◌≤◌, IfErr};
+ghost use Rattle.std.specs.Prelude.{◌≡◌, ◌+◌, ◌<◌, ◌≤◌, IfErr};
 ghost use Rattle.served_volume.specs.Seen.{IsSeen};
-ghost use Rattle.served_volume.specs.declared.not_opened.NotOpened.TheVariants.{StoreFailed, NoMemory};
+ghost use Rattle.served_volume.specs.NotReady.{IsReadFailure};
 
 use crate::NotOpened;
 use crate::looking::read_seen;
@@ -22,7 +22,7 @@ fn has_end<B: Ahead>(
     requires whole { range.count ≡ chunk }
     requires inside { range.first + range.count ≤ B.size store.old }
     ensures seen { IsSeen B.may_hold B.contents B.layers B.size store.old store.new }
-    ensures failed { IfErr result (λ e. (e ≡ StoreFailed) ⊎ (e ≡ NoMemory)) }
+    ensures failed { IfErr result IsReadFailure }
 {
     let Ok(mut bytes) = vec![in alloc; 0u8; SECTOR_BYTES * chunk as usize] else {
         return Err(NotOpened::NoMemory);
@@ -38,7 +38,7 @@ pub fn areas_ahead<B: Ahead>(alloc: Global, store: &mut B, chunk: u32) -> Result
     requires some { 0 < chunk }
     requires allowed { chunk ≤ 1024 }
     ensures seen { IsSeen B.may_hold B.contents B.layers B.size store.old store.new }
-    ensures failed { IfErr result (λ e. (e ≡ StoreFailed) ⊎ (e ≡ NoMemory)) }
+    ensures failed { IfErr result IsReadFailure }
 {
     let size = store.sectors();
     let sectors = chunk as u64;

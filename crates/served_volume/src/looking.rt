@@ -1,8 +1,8 @@
 // What a store's first sector says is looked at.
-ghost use Rattle.std.specs.Prelude.{◌≡◌, ◌⊎◌, ◌+◌, ◌*◌, ◌<◌, ◌≤◌, length, IfOk, IfErr, OnOk};
+ghost use Rattle.std.specs.Prelude.{◌≡◌, ◌+◌, ◌*◌, ◌<◌, ◌≤◌, length, IfOk, IfErr, OnOk};
 ghost use Rattle.sector.specs.Bytes.{sector_at, sectors_at};
 ghost use Rattle.cow_header.specs.HeaderText.{found_in};
-ghost use Rattle.served_volume.specs.declared.not_opened.NotOpened.TheVariants.{StoreFailed, NoMemory};
+ghost use Rattle.served_volume.specs.NotReady.{IsReadFailure};
 ghost use Rattle.served_volume.specs.Seen.{IsSeen};
 
 use crate::NotOpened;
@@ -25,7 +25,7 @@ pub fn read_seen<B: Ahead>(
     ensures seen { IsSeen B.may_hold B.contents B.layers B.size device.old device.new }
     ensures data { OnOk result (out.new ≡ sectors_at (B.contents device.new) range.first range.count) }
     ensures len { length out.new ≡ length out.old }
-    ensures failed { IfErr result (λ e. (e ≡ StoreFailed) ⊎ (e ≡ NoMemory)) }
+    ensures failed { IfErr result IsReadFailure }
 {
     match device.read_more(alloc, range) {
         Ok(true) => {}
@@ -46,7 +46,7 @@ pub fn first_said<B: Ahead>(
     requires some { 0 < B.size store.old }
     ensures seen { IsSeen B.may_hold B.contents B.layers B.size store.old store.new }
     ensures said { IfOk result (λ said. said ≡ found_in (sector_at (B.contents store.new) 0)) }
-    ensures failed { IfErr result (λ e. (e ≡ StoreFailed) ⊎ (e ≡ NoMemory)) }
+    ensures failed { IfErr result IsReadFailure }
 {
     let range = Range {
         first: 0,

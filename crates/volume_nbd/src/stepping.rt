@@ -3,6 +3,7 @@ ghost use Rattle.std.specs.Prelude.{◌≡◌, ◌≢◌, ◌==◌, ◌&&◌, If
 ghost use Rattle.served_array.specs.declared.array.Stepped.TheVariants.{Ended, Still};
 ghost use Rattle.volume.specs.Volumed.{is_due_of, next_of};
 ghost use Rattle.volume_nbd.specs.Faults.{is_stopped as is_stopped_by};
+ghost use Rattle.volume_nbd.specs.Served.{ChangesOrStarves, ChangesVolume, IsIdleIfNone, IsStarved};
 ghost use Rattle.volume_nbd.specs.Steps.{DoesEvent, DoesServedStep};
 
 use crate::VolumeArray;
@@ -32,7 +33,7 @@ impl<B: Ahead> VolumeArray<B> {
     fn do_event(&mut self, event: Event) -> Option<Stepped>
         ensures some { IfSome result (λ stepped. DoesEvent B.may_hold B.contents B.layers B.size B.fault_count B.done_count B.failed self.old.chosen stepped self.old.volume self.new.volume) }
         ensures none { IfNone result (self.new ≡ self.old) }
-        ensures kept { self.new ≡ record self.old { volume = self.new.volume } }
+        ensures kept { ChangesVolume self.old self.new }
     {
         if !self.volume.is_due(event) {
             return None;
@@ -52,7 +53,7 @@ impl<B: Ahead> VolumeArray<B> {
     /// Gathers the events of a batch. `false` where memory is refused.
     fn gather(&mut self, batch: Batch) -> bool
         ensures kept { self.new ≡ record self.old { starved = self.new.starved } }
-        ensures told { result ≡ false → self.new.starved ≡ true }
+        ensures told { result ≡ false → IsStarved self.new }
     {
         self.batch = batch;
         self.at = 0;
@@ -64,9 +65,9 @@ impl<B: Ahead> VolumeArray<B> {
     fn turn(&mut self) -> Option<Stepped>
         ensures some { IfSome result (λ stepped. DoesServedStep B.may_hold B.contents B.layers B.size B.fault_count B.done_count B.failed self.old.chosen stepped self.old.volume self.new.volume) }
         ensures still { result ≡ Some Still → next_of B.contents B.layers self.old.volume ≡ None }
-        ensures ended { result ≡ Some Ended → self.new.starved ≡ true }
-        ensures none { IfNone result (self.new.volume ≡ self.old.volume) }
-        ensures kept { self.new ≡ record self.old { volume = self.new.volume; starved = self.new.starved } }
+        ensures ended { result ≡ Some Ended → IsStarved self.new }
+        ensures none { IsIdleIfNone result self.old self.new }
+        ensures kept { ChangesOrStarves self.old self.new }
     {
         let Some(next) = after(self.batch) else {
             return Some(self.end_round());
@@ -84,8 +85,8 @@ impl<B: Ahead> VolumeArray<B> {
     fn end_round(&mut self) -> Stepped
         ensures does { DoesServedStep B.may_hold B.contents B.layers B.size B.fault_count B.done_count B.failed self.old.chosen result self.old.volume self.new.volume }
         ensures still { result ≡ Still → next_of B.contents B.layers self.old.volume ≡ None }
-        ensures ended { result ≡ Ended → self.new.starved ≡ true }
-        ensures kept { self.new ≡ record self.old { volume = self.new.volume; starved = self.new.starved } }
+        ensures ended { result ≡ Ended → IsStarved self.new }
+        ensures kept { ChangesOrStarves self.old self.new }
     {
         let went = self.went;
         self.went = false;
@@ -107,7 +108,7 @@ impl<B: Ahead> VolumeArray<B> {
         ensures does { DoesServedStep B.may_hold B.contents B.layers B.size B.fault_count B.done_count B.failed self.old.chosen result self.old.volume self.new.volume }
         ensures still { result ≡ Still → next_of B.contents B.layers self.old.volume ≡ None }
         ensures goes { result ≢ Ended }
-        ensures kept { self.new ≡ record self.old { volume = self.new.volume } }
+        ensures kept { ChangesVolume self.old self.new }
     {
         let Some(event) = self.volume.due() else {
             return Stepped::Still;
@@ -124,9 +125,9 @@ impl<B: Ahead> VolumeArray<B> {
     fn look(&mut self) -> Option<Stepped>
         ensures some { IfSome result (λ stepped. DoesServedStep B.may_hold B.contents B.layers B.size B.fault_count B.done_count B.failed self.old.chosen stepped self.old.volume self.new.volume) }
         ensures still { result ≡ Some Still → next_of B.contents B.layers self.old.volume ≡ None }
-        ensures ended { result ≡ Some Ended → self.new.starved ≡ true }
-        ensures none { IfNone result (self.new.volume ≡ self.old.volume) }
-        ensures kept { self.new ≡ record self.old { volume = self.new.volume; starved = self.new.starved } }
+        ensures ended { result ≡ Some Ended → IsStarved self.new }
+        ensures none { IsIdleIfNone result self.old self.new }
+        ensures kept { ChangesOrStarves self.old self.new }
     {
         match self.events.get(self.at).copied() {
             Some(event) => {
@@ -142,10 +143,10 @@ impl<B: Ahead> VolumeArray<B> {
     pub fn go_on(&mut self) -> Stepped
         ensures does { DoesServedStep B.may_hold B.contents B.layers B.size B.fault_count B.done_count B.failed self.old.chosen result self.old.volume self.new.volume }
         ensures stopped { is_stopped_by B.failed self.old.volume ≡ true → (result ≡ Ended) × (self.new ≡ self.old) }
-        ensures starved { self.old.starved ≡ true → (result ≡ Ended) × (self.new ≡ self.old) }
-        ensures ended { result ≡ Ended → is_stopped_by B.failed self.old.volume ≡ false → self.new.starved ≡ true }
+        ensures starved { IsStarved self.old → (result ≡ Ended) × (self.new ≡ self.old) }
+        ensures ended { result ≡ Ended → is_stopped_by B.failed self.old.volume ≡ false → IsStarved self.new }
         ensures still { result ≡ Still → next_of B.contents B.layers self.old.volume ≡ None }
-        ensures kept { self.new ≡ record self.old { volume = self.new.volume; starved = self.new.starved } }
+        ensures kept { ChangesOrStarves self.old self.new }
     {
         if self.starved || is_stopped(&self.volume) {
             return Stepped::Ended;

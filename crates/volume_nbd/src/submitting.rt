@@ -4,6 +4,7 @@ ghost use Rattle.plain_machine.specs.declared.request.Op.TheVariants.{Write};
 ghost use Rattle.nbd_jobs.specs.declared.work.Kind.TheVariants.{Write as AsksWrite};
 ghost use Rattle.nbd_jobs.specs.declared.work.Work.{Work};
 ghost use Rattle.snapshot_list.specs.Numbers.{count_in};
+ghost use Rattle.volume_nbd.specs.Served.{ChangesVolume};
 ghost use Rattle.volume_nbd.specs.Submits.{DoesTakeIn, IsCrowded, IsHandedOn, op_of};
 
 use crate::VolumeArray;
@@ -67,7 +68,7 @@ impl<B: Ahead> VolumeArray<B> {
     fn hand_on(&mut self, alloc: Global, op: Op, range: Range) -> Result<u64, Refused>
         requires bytes { (bytes : List ℕ) → op ≡ Write bytes → length bytes ≡ 512 * range.count }
         ensures does { (work : Work) (part : List ℕ) → op ≡ op_of work.kind work.count part → range.first ≡ work.first → range.count ≡ work.count → range.size ≡ B.size self.old.volume.origin → IsHandedOn B.may_hold B.contents B.layers B.size self.old.chosen work part result self.old.volume self.new.volume }
-        ensures kept { self.new ≡ record self.old { volume = self.new.volume } }
+        ensures kept { ChangesVolume self.old self.new }
     {
         let request = Request {
             dev: self.dev,
@@ -87,7 +88,7 @@ impl<B: Ahead> VolumeArray<B> {
     pub fn take_in(&mut self, alloc: Global, work: Work, part: &[u8]) -> Result<u64, Refused>
         requires { work.kind ≡ AsksWrite → length part.now ≡ 512 * work.count }
         ensures does { DoesTakeIn B.may_hold B.contents B.layers B.size self.old.chosen work part.now result self.old.volume self.new.volume }
-        ensures kept { self.new ≡ record self.old { volume = self.new.volume } }
+        ensures kept { ChangesVolume self.old self.new }
     {
         if is_crowded(&self.volume) {
             return Err(Refused::Full);

@@ -21,12 +21,12 @@ pub returns-in_err-plan-clause-run : goal.returns-in_err-plan-clause-run
 returns-in_err-plan-clause-run g c = not_run c.args.block.lines (table_of c.args.held.now)
 
 pub run_plan-requires-clause-many : goal.run_plan-requires-clause-many
-run_plan-requires-clause-many g c lives outlives = marks_many c.into_lines.result.items (table_of c.args.held.now) c.in_ok-plan.plan.used.items c.in_ok-plan.ensures.used
+run_plan-requires-clause-many g c lives outlives = marks_many c.into_lines.result.items (table_of c.args.held.now) c.in_ok-plan.plan.used.items c.in_ok-plan.ensures.plan.used
 
 pub run_plan-requires-clause-room : goal.run_plan-requires-clause-room
 run_plan-requires-clause-room g c lives outlives =
-    let few = asked_few c.in_ok-plan.plan.used.items (table_of c.args.held.now) c.into_lines.result.items (tasks_at c.in_ok-plan.plan.tasks.items) c.in_ok-plan.ensures.asked in
-    omega (arith, few, c.in_ok-plan.ensures.room)
+    let few = asked_few c.in_ok-plan.plan.used.items (table_of c.args.held.now) c.into_lines.result.items (tasks_at c.in_ok-plan.plan.tasks.items) c.in_ok-plan.ensures.plan.asked in
+    omega (arith, few, c.in_ok-plan.ensures.plan.room)
 
 pub returns-clause-told : goal.returns-clause-told
 returns-clause-told g c =
@@ -39,7 +39,7 @@ returns-clause-seats g c =
     IfOk-weaker c.run_plan.result _ _
     (λ replies (played, plays, r).
     ap (map seat_in) r.replies_are
-    ∙ seats_are c.in_ok-plan.plan.used.items (table_of c.args.held.now) c.into_lines.result.items played (tasks_at c.in_ok-plan.plan.tasks.items) r.told c.opening-ticket.result.hold r.opened c.in_ok-plan.ensures.asked r.ended
+    ∙ seats_are c.in_ok-plan.plan.used.items (table_of c.args.held.now) c.into_lines.result.items played (tasks_at c.in_ok-plan.plan.tasks.items) r.told c.opening-ticket.result.hold r.opened c.in_ok-plan.ensures.plan.asked r.ended
     ∙ ap (λ (l : List SeatLine). seats_told (map seat l) ++ gate_told c.opening-ticket.result.hold) c.into_lines.ensures.lines
     ∙ ap (λ (t : Option ℕ). seats_told (map seat c.args.block.lines) ++ gate_told t) ticket)
     c.run_plan.ensures.told
@@ -50,13 +50,13 @@ returns-clause-answers g c =
     let old = table_of c.args.held.now in
     let new = table_of c.run_plan.new.held in
     let asked = tasks_at c.in_ok-plan.plan.tasks.items in
-    let used : c.in_ok-plan.plan.used.items ≡ used_in c.args.block.lines old = c.in_ok-plan.ensures.used ∙ ap (λ (l : List SeatLine). used_in l old) c.into_lines.ensures.lines in
+    let used : c.in_ok-plan.plan.used.items ≡ used_in c.args.block.lines old = c.in_ok-plan.ensures.plan.used ∙ ap (λ (l : List SeatLine). used_in l old) c.into_lines.ensures.lines in
     IfOk-weaker c.run_plan.result _ _
     (λ replies (played, plays, r). record {
       asked = asked;
       played = played;
       asks = subst (λ (us : List Bool). AreAsked us old c.args.block.lines asked) used
-          (subst (λ (l : List SeatLine). AreAsked c.in_ok-plan.plan.used.items old l asked) c.into_lines.ensures.lines c.in_ok-plan.ensures.asked);
+          (subst (λ (l : List SeatLine). AreAsked c.in_ok-plan.plan.used.items old l asked) c.into_lines.ensures.lines c.in_ok-plan.ensures.plan.asked);
       plays = subst (λ (us : List Bool). ArePlayed us played old.volumes new.volumes) used plays;
       told = subst (λ (t : Option ℕ). AreReplied t played asked replies.items) ticket r;
     })
@@ -64,13 +64,13 @@ returns-clause-answers g c =
 
 pub returns-clause-sound : goal.returns-clause-sound
 returns-clause-sound g c =
-    let used : c.in_ok-plan.plan.used.items ≡ used_in c.into_lines.result.items (table_of c.args.held.now) = c.in_ok-plan.ensures.used in
+    let used : c.in_ok-plan.plan.used.items ≡ used_in c.into_lines.result.items (table_of c.args.held.now) = c.in_ok-plan.ensures.plan.used in
     still_sound c.into_lines.result.items (table_of c.args.held.now) (table_of c.run_plan.new.held)
     (table_run c.into_lines.result.items (table_of c.args.held.now) (table_of c.run_plan.new.held) c.in_ok-plan.plan.used.items used c.run_plan.ensures.stacks c.run_plan.ensures.volumes)
 
 pub returns-clause-named : goal.returns-clause-named
 returns-clause-named g c =
-    let used : c.in_ok-plan.plan.used.items ≡ used_in c.into_lines.result.items (table_of c.args.held.now) = c.in_ok-plan.ensures.used in
+    let used : c.in_ok-plan.plan.used.items ≡ used_in c.into_lines.result.items (table_of c.args.held.now) = c.in_ok-plan.ensures.plan.used in
     still_named c.into_lines.result.items (table_of c.args.held.now) (table_of c.run_plan.new.held)
     (table_run c.into_lines.result.items (table_of c.args.held.now) (table_of c.run_plan.new.held) c.in_ok-plan.plan.used.items used c.run_plan.ensures.stacks c.run_plan.ensures.volumes)
 
