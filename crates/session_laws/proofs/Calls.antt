@@ -33,6 +33,7 @@ use Rattle.volume_nbd.specs.Steps.{DoesEvent}
 use Rattle.volume_nbd.specs.Submits.{IsHandedOn}
 use Rattle.session_laws.specs.Sessions.{LosesInCall, LosesNow, LosesThrough, Notes}
 use Rattle.session_laws.proofs.Ahead.{ahead_known}
+use Rattle.session_laws.proofs.Carrying.{carries_now}
 use Rattle.session_laws.proofs.Keeping.{IsKeptBy, keeps_now, kept_call}
 
 module _ {B : Type 0} (holds : B → ℕ → List ℕ → Type 0) (m : Measures B) (layers : B → List Layer) (failed : B → Bool) (whole : (d : B) → length (m.contents d) ≡ 512 * m.size d) (here : (d : B) (s : ℕ) → s < m.size d → holds d s (sector_at (m.contents d) s)) where
@@ -106,10 +107,10 @@ module _ {B : Type 0} (holds : B → ℕ → List ℕ → Type 0) (m : Measures 
       let now : IsKnown new.volume first = same_known start.volume new.volume first (ap (λ (x : Served B). x.volume) same) is in
       let still : IsKeptBy holds m layers failed start [] new first = subst (λ (x : Served B). IsKeptBy holds m layers failed start [] x first) (sym same) kept in
       let loses = loses_now new first now in
-      record { after = first; loses = (same, refl, loses, keeps_now holds m layers failed start [] new first still loses); is = now; kept = still }
+      record { after = first; loses = (same, refl, loses, carries_now holds m layers failed first new loses, keeps_now holds m layers failed start [] new first still loses); is = now; kept = still }
   through first start (call ∷ calls) new is kept (old, so_far, does) =
       let t = through first start calls old is kept so_far in
       let p = passes call old new t.after does t.is in
       let still = kept_call holds m layers failed start call calls old new t.after p.after does p.notes t.kept in
       let loses = loses_now new p.after p.is in
-      record { after = p.after; loses = (old, t.after, t.loses, does, p.within, p.notes, loses, keeps_now holds m layers failed start (call ∷ calls) new p.after still loses); is = p.is; kept = still }
+      record { after = p.after; loses = (old, t.after, t.loses, does, p.within, p.notes, loses, carries_now holds m layers failed p.after new loses, keeps_now holds m layers failed start (call ∷ calls) new p.after still loses); is = p.is; kept = still }

@@ -55,7 +55,7 @@ use Rattle.volume_nbd.specs.Served.{Served}
 use Rattle.volume_nbd.specs.Steps.{DoesEvent}
 use Rattle.volume_nbd.specs.Submits.{IsHandedOn, IsOf, op_of}
 use Rattle.served_volume.specs.Loaded.{IsLoaded}
-use Rattle.session_laws.specs.Keeping.{AreLoaded, GivesBack, IsMergedFrom, KeepsNow, chosen_by, is_given, used_after}
+use Rattle.session_laws.specs.Keeping.{AreLoaded, GivesBack, IsLoadedFrom, IsMergedFrom, KeepsNow, chosen_by, is_given, used_after}
 use Rattle.session_laws.specs.Sessions.{LosesNow, Notes, as_shown, known_first, known_with, opened}
 
 none_some : {X : Type 0} (x : X) → None ≡ Some x → ⊥
@@ -69,6 +69,11 @@ Among f (g ∷ gs) = (g ≡ f) ⊎ Among f gs
 among_behind : (f : Flushed) (more made : List Flushed) → Among f made → Among f (more ++ made)
 among_behind f [] made is = is
 among_behind f (g ∷ more) made is = inr (among_behind f more made is)
+
+among_before : (f : Flushed) (made more : List Flushed) → Among f made → Among f (made ++ more)
+among_before f [] more is = absurd is
+among_before f (g ∷ made) more (inl here) = inl here
+among_before f (g ∷ made) more (inr there) = inr (among_before f made more there)
 
 among_same : (f : Flushed) (change : Flushed → Flushed) (made : List Flushed) → change f ≡ f → Among f made → Among f (map change made)
 among_same f change [] same is = absurd is
@@ -136,10 +141,10 @@ entry_among p number array found (e ∷ es) is = elim (cases_Bool (e.number == n
   | inr other ↦ inr (entry_among p number array found es (sym (rw other refl) ∙ is))
 ]
 
-first_among : {B : Type 0} (p : Plain) (number : ℕ) (array : List ℕ) (entry : Kept B → Entry) (snaps : List (Kept B)) (merge : Option (Merging B)) → p.saved ≡ map entry snaps → saved_under number p.saved ≡ Some (Live array)
-    → Among (just number array) (known_with snaps merge (opened p)).made
-first_among p number array entry [] merge are found = absurd (none_some (Live array) (sym (ap (saved_under number) are) ∙ found))
-first_among p number array entry (s ∷ snaps) merge are found = inr (entry_among p number array found p.saved found)
+first_among : {B : Type 0} (p : Plain) (carried : List Flushed) (number : ℕ) (array : List ℕ) (entry : Kept B → Entry) (snaps : List (Kept B)) (merge : Option (Merging B)) → p.saved ≡ map entry snaps → saved_under number p.saved ≡ Some (Live array)
+    → Among (just number array) (known_with snaps merge (opened carried p)).made
+first_among p carried number array entry [] merge are found = absurd (none_some (Live array) (sym (ap (saved_under number) are) ∙ found))
+first_among p carried number array entry (s ∷ snaps) merge are found = inr (among_before (just number array) (map (λ (e : Entry). as_shown p (Some e.number)) p.saved) carried (entry_among p number array found p.saved found))
 
 -- What is known to last, lasts.
 module _ {B : Type 0} (holds : B → ℕ → List ℕ → Type 0) (m : Measures B) (layers : B → List Layer) where
@@ -148,7 +153,7 @@ module _ {B : Type 0} (holds : B → ℕ → List ℕ → Type 0) (m : Measures 
   last_among v f (g ∷ made) all (inl here) = subst (λ (x : Flushed). LastsArray holds m.size x x.array v v) here all.0
   last_among v f (g ∷ made) all (inr there) = last_among v f made all.1 there
 
-  either : (d : B) (b : List ℕ) → MayLeave (holds d) (m.size d) b → MayLeave (Within (holds d) (holds d)) (m.size d) b
+  pub either : (d : B) (b : List ℕ) → MayLeave (holds d) (m.size d) b → MayLeave (Within (holds d) (holds d)) (m.size d) b
   either d b left = record { whole = left.whole; each = λ k lt. inl (left.each k lt) }
 
   lasts_of : (v : Volumed B) (number : ℕ) (array : List ℕ) (made : List Flushed) → LosesNothing holds m.size made v v → Among (just number array) made → LastsTaken holds m.size v (record { number = number; array = array })
@@ -186,10 +191,10 @@ module _ {B : Type 0} (holds : B → ℕ → List ℕ → Type 0) (m : Measures 
     both : (is_loud_in_all layers old && is_loud (layers loads.seen)) ≡ true
     both = sym loads.attached.loud ∙ kept
 
-    was : is_loud_in_all layers old ≡ true
+    pub was : is_loud_in_all layers old ≡ true
     was = and_left (is_loud_in_all layers old) (is_loud (layers loads.seen)) both
 
-    brought : is_loud (layers loads.seen) ≡ true
+    pub brought : is_loud (layers loads.seen) ≡ true
     brought = and_right (is_loud_in_all layers old) (is_loud (layers loads.seen)) both
 
     new_saved : saved_in number new ≡ Some (Live (shown_array (m.contents old.origin) (m.contents loads.seen)))
@@ -201,7 +206,7 @@ module _ {B : Type 0} (holds : B → ℕ → List ℕ → Type 0) (m : Measures 
     old_saved : (n : ℕ) (saved : Saved) → saved_in n old ≡ Some saved → saved_in n new ≡ Some saved
     old_saved n saved is = ap (λ (p : Plain). saved_under n p.saved) (loads.attached.taken was brought).becomes ∙ saved_more n saved _ (plain_of m.contents layers old).saved is
 
-  loads_loud : (others : List ℕ) (old new : Volumed B) → AreLoaded holds m layers failed others old new → is_loud_in_all layers new ≡ true → is_loud_in_all layers old ≡ true
+  pub loads_loud : (others : List ℕ) (old new : Volumed B) → AreLoaded holds m layers failed others old new → is_loud_in_all layers new ≡ true → is_loud_in_all layers old ≡ true
   loads_loud [] old new same kept = subst (λ (x : Volumed B). is_loud_in_all layers x ≡ true) same kept
   loads_loud (n ∷ others) old new (mid, chunk, overflow, device, found, loads, more) kept = was chunk overflow device n found old mid loads (loads_loud others mid new more kept)
 
@@ -210,17 +215,21 @@ module _ {B : Type 0} (holds : B → ℕ → List ℕ → Type 0) (m : Measures 
   loads_saved (n ∷ others) old new (mid, chunk, overflow, device, found, loads, more) kept number saved is =
       loads_saved others mid new more kept number saved (old_saved chunk overflow device n found old mid loads (loads_loud others mid new more kept) number saved is)
 
-  -- which array is merged: the picture of what a stop left
-  merged_from : (chunk : ℕ) (o c : List ℕ) (new : Volumed B) → found_in (sector_at c 0) ≡ Ok (Header chunk) → (again : IsMergedFrom holds m layers failed o c new) → (plain_of m.contents layers new).origin ≡ picture chunk o c
-  merged_from chunk o c new header again =
-      let kept = loads_loud again.others again.loaded again.opened again.more again.kept in
-      let begun = again.merges.assigned again.kept in
+  -- the array of a store that is loaded: the picture of what a stop left
+  pub loaded_from : (chunk : ℕ) (o c : List ℕ) (number : ℕ) (new : Volumed B) → found_in (sector_at c 0) ≡ Ok (Header chunk) → IsLoadedFrom holds m layers failed o c number new → saved_in number new ≡ Some (Live (picture chunk o c))
+  loaded_from chunk o c number new header again =
+      let kept = loads_loud again.others again.loaded new again.more again.kept in
       let array = shown_array (m.contents again.old.origin) (m.contents again.loads.seen) in
-      let first : saved_in again.number again.loaded ≡ Some (Live array) = new_saved again.chunk again.overflow again.device again.number again.found again.old again.loaded again.loads kept in
-      let last : saved_in again.number again.opened ≡ Some (Live array) = loads_saved again.others again.loaded again.opened again.more again.kept again.number (Live array) first in
-      let bytes : m.contents again.loads.seen ≡ c = again.loads.looked.same (brought again.chunk again.overflow again.device again.number again.found again.old again.loaded again.loads kept) ∙ again.store_is in
-      ap (λ (p : Plain). p.origin) begun.becomes ∙ same_live begun.array array (sym begun.found ∙ last)
-      ∙ ap (λ x. shown_array x (m.contents again.loads.seen)) again.origin_is ∙ ap (shown_array o) bytes ∙ ap (shown_as o c) header
+      let first : saved_in number again.loaded ≡ Some (Live array) = new_saved again.chunk again.overflow again.device number again.found again.old again.loaded again.loads kept in
+      let bytes : m.contents again.loads.seen ≡ c = again.loads.looked.same (brought again.chunk again.overflow again.device number again.found again.old again.loaded again.loads kept) ∙ again.store_is in
+      loads_saved again.others again.loaded new again.more again.kept number (Live array) first
+      ∙ ap (λ x. Some (Live x)) (ap (λ x. shown_array x (m.contents again.loads.seen)) again.origin_is ∙ ap (shown_array o) bytes ∙ ap (shown_as o c) header)
+
+  -- and which is merged
+  pub merged_from : (chunk : ℕ) (o c : List ℕ) (new : Volumed B) → found_in (sector_at c 0) ≡ Ok (Header chunk) → (again : IsMergedFrom holds m layers failed o c new) → (plain_of m.contents layers new).origin ≡ picture chunk o c
+  merged_from chunk o c new header again =
+      let begun = again.merges.assigned again.from.kept in
+      ap (λ (p : Plain). p.origin) begun.becomes ∙ same_live begun.array (picture chunk o c) (sym begun.found ∙ loaded_from chunk o c again.number again.opened header again.from)
 
   given_back : (v : Volumed B) (t : Taken) → LastsTaken holds m.size v t → GivesBack holds m layers failed v t
   given_back v t lasts place s at mine live o c lo lc new again n lt =
@@ -239,12 +248,12 @@ module _ {B : Type 0} (holds : B → ℕ → List ℕ → Type 0) (m : Measures 
     pub each : (number : ℕ) (array : List ℕ) → saved_under number (plain start.volume).saved ≡ Some (Live array) → is_given number start.exports start.chosen calls ≡ false
         → Among (just number array) h.made × (is_loud_in_all layers v.volume ≡ true → IsKept (plain v.volume) (record { number = number; array = array }))
 
-  pub kept_first : start.volume.flights ≡ [] → IsKeptBy [] start (known_first m layers start.volume)
-  kept_first idle = record {
+  pub kept_first : (carried : List Flushed) → start.volume.flights ≡ [] → IsKeptBy [] start (known_first m layers carried start.volume)
+  kept_first carried idle = record {
     exports = refl;
     used = refl;
     each = λ number array found none. (
-      first_among (plain start.volume) number array (shown_entry m.contents (m.contents start.volume.origin)) start.volume.snaps start.volume.merge refl found,
+      first_among (plain start.volume) carried number array (shown_entry m.contents (m.contents start.volume.origin)) start.volume.snaps start.volume.merge refl found,
       λ loud. record { shows = inl found; free = ap (λ fs. is_written number (map in_flight fs)) idle },
     );
   }

@@ -1,5 +1,5 @@
 -- A volume whose files hold nothing but what is there: each array as it is shown is known to last.
-use Rattle.std.proofs.Common.{◌≡◌, ◌⊎◌, inl, inr, ℕ, ◌*◌, ◌<◌, Bool, true, List, [], ◌∷◌, length, map, get_or, Option, Some, None, refl, sym, ◌∙◌, ap, subst}
+use Rattle.std.proofs.Common.{◌≡◌, ◌⊎◌, inl, inr, ℕ, ◌*◌, ◌<◌, Bool, true, List, [], ◌∷◌, ◌++◌, length, map, get_or, Option, Some, None, refl, sym, ◌∙◌, ap, subst}
 use Rattle.std.specs.Prelude.{◌&&◌}
 use Rattle.std.specs.List.{list_all}
 use Rattle.std.proofs.lemmas.List.Elements.{All-get_or}
@@ -19,10 +19,11 @@ use Rattle.volume.specs.Layering.{Measures}
 use Rattle.volume.specs.Volumed.{Volumed, is_loud_in_all, is_loud_with, plain_of}
 use Rattle.volume.proofs.MergeLasts.{kept_merge}
 use Rattle.volume.proofs.Shown.{and_right}
-use Rattle.volume_history.specs.Flushed.{Allows, Flushed, History}
+use Rattle.volume_history.specs.Flushed.{Allows, Flushed, History, array_in}
 use Rattle.volume_history.proofs.Closes.{disk_closed, merging_closed, origin_loud, out_closed, snap_answered}
 use Rattle.volume_history.proofs.Histories.{EachOf, Holds, Known}
 use Rattle.volume_nbd.specs.Looked.{IsLookedAt}
+use Rattle.session_laws.specs.Carrying.{AreShown}
 use Rattle.session_laws.specs.Sessions.{AreFirm, IsOpened, as_shown, known_first, known_with, opened}
 use Rattle.session_laws.proofs.Calls.{IsKnown}
 
@@ -31,8 +32,12 @@ each_of : {X Y : Type 0} (P : Y → Type 0) (f : X → Y) (xs : List X) → ((x 
 each_of P f [] all = tt
 each_of P f (x ∷ xs) all = (all x, each_of P f xs all)
 
+each_both : {X : Type 0} (P : X → Type 0) (xs ys : List X) → EachOf P xs → EachOf P ys → EachOf P (xs ++ ys)
+each_both P [] ys these those = those
+each_both P (x ∷ xs) ys these those = (these.0, each_both P xs ys these.1 those)
+
 module _ {B : Type 0} (holds : B → ℕ → List ℕ → Type 0) (m : Measures B) (layers : B → List Layer) (failed : B → Bool) (whole : (d : B) → length (m.contents d) ≡ 512 * m.size d) (here : (d : B) (s : ℕ) → s < m.size d → holds d s (sector_at (m.contents d) s)) (v : Volumed B)
-    (looked : IsLookedAt holds m.contents layers m.size v) (firm : AreFirm holds m layers v) (idle : v.flights ≡ []) where
+    (looked : IsLookedAt holds m.contents layers m.size v) (firm : AreFirm holds m layers v) (idle : v.flights ≡ []) (carried : List Flushed) (are : AreShown (plain_of m.contents layers v) (m.size v.origin) carried) where
   abbrev plain : Plain
   plain = plain_of m.contents layers v
 
@@ -73,10 +78,36 @@ module _ {B : Type 0} (holds : B → ℕ → List ℕ → Type 0) (m : Measures 
     snap_held : (n : ℕ) → Holds holds m layers v (as_shown plain (Some n))
     snap_held n = record { shows = snap_shows n; asked = λ s x gives. absurd (none_given (Some n) s x gives) }
 
-    known : Known holds m layers v (opened plain)
-    known = record { made = (origin_held, each_of (Holds holds m layers v) (λ (e : Entry). as_shown plain (Some e.number)) plain.saved (λ e. snap_held e.number)); asked = tt }
+    -- what is carried over: each array shows just what it is
+    just_that : (a : Option ℕ) (s : ℕ) (x : List ℕ) → Allows (as_shown plain a) s x → x ≡ sector_at (array_in a plain) s
+    just_that a s x (inl (inl is)) = is
+    just_that a s x (inl (inr none)) = absurd none
+    just_that a s x (inr none) = absurd none
 
-  pub opened_known : IsKnown holds m layers failed whole here v (opened plain)
+    shows_array : (a : Option ℕ) (s : ℕ) (x : List ℕ) → IsOpenIn holds m.size v a s x → (s < m.size v.origin) × (x ≡ sector_at (array_in a plain) s)
+    shows_array None s x may = (may.0, just_that None s x (origin_shows s x may))
+    shows_array (Some n) s x may = (may.0, just_that (Some n) s x (snap_shows n s x may))
+
+    carried_held : (f : Flushed) → ((s : ℕ) → s < m.size v.origin → Allows f s (sector_at (array_in f.array plain) s)) → Holds holds m layers v f
+    carried_held f shown = record {
+      shows = λ s x may. (let is = shows_array f.array s x may in subst (Allows f s) (sym is.1) (shown s is.0));
+      asked = λ s x gives. absurd (none_given f.array s x gives);
+    }
+
+    all_carried : (some : List Flushed) → AreShown plain (m.size v.origin) some → EachOf (Holds holds m layers v) some
+    all_carried [] shown = tt
+    all_carried (f ∷ some) shown = (carried_held f shown.0, all_carried some shown.1)
+
+    known : Known holds m layers v (opened carried plain)
+    known = record {
+      made = (
+        origin_held,
+        each_both (Holds holds m layers v) (map (λ (e : Entry). as_shown plain (Some e.number)) plain.saved) carried (each_of (Holds holds m layers v) (λ (e : Entry). as_shown plain (Some e.number)) plain.saved (λ e. snap_held e.number)) (all_carried carried are),
+      );
+      asked = tt;
+    }
+
+  pub opened_known : IsKnown holds m layers failed whole here v (opened carried plain)
   opened_known = record { looked = looked; known = known }
 
 -- and nothing of one without a snapshot
@@ -89,10 +120,10 @@ module _ {B : Type 0} (holds : B → ℕ → List ℕ → Type 0) (m : Measures 
   with_firm [] (Some g) h is looked = is
   with_firm (s ∷ snaps) merge h is looked = is
 
-  pub first_known : IsLookedAt holds m.contents layers m.size v → IsOpened holds m layers v → IsKnown holds m layers failed whole here v (known_first m layers v)
-  first_known looked is = by is.firm
+  pub first_known : (carried : List Flushed) → AreShown (plain_of m.contents layers v) (m.size v.origin) carried → IsLookedAt holds m.contents layers m.size v → IsOpened holds m layers v → IsKnown holds m layers failed whole here v (known_first m layers carried v)
+  first_known carried are looked is = by is.firm
     where
-      by : ((v.snaps ≡ []) × (v.merge ≡ None)) ⊎ AreFirm holds m layers v → IsKnown holds m layers failed whole here v (known_first m layers v)
-      by (inl none) = subst (λ (snaps : List (Kept B)). IsKnown holds m layers failed whole here v (known_with snaps v.merge (opened (plain_of m.contents layers v)))) (sym none.0)
-          (subst (λ (merge : Option (Merging B)). IsKnown holds m layers failed whole here v (known_with [] merge (opened (plain_of m.contents layers v)))) (sym none.1) (none_known looked))
-      by (inr firm) = with_firm v.snaps v.merge (opened (plain_of m.contents layers v)) (opened_known holds m layers failed whole here v looked firm is.idle) looked
+      by : ((v.snaps ≡ []) × (v.merge ≡ None)) ⊎ AreFirm holds m layers v → IsKnown holds m layers failed whole here v (known_first m layers carried v)
+      by (inl none) = subst (λ (snaps : List (Kept B)). IsKnown holds m layers failed whole here v (known_with snaps v.merge (opened carried (plain_of m.contents layers v)))) (sym none.0)
+          (subst (λ (merge : Option (Merging B)). IsKnown holds m layers failed whole here v (known_with [] merge (opened carried (plain_of m.contents layers v)))) (sym none.1) (none_known looked))
+      by (inr firm) = with_firm v.snaps v.merge (opened carried (plain_of m.contents layers v)) (opened_known holds m layers failed whole here v looked firm is.idle carried are) looked

@@ -47,22 +47,27 @@ AreLoaded holds m layers failed [] old new = new ≡ old
 AreLoaded {B} holds m layers failed (number ∷ numbers) old new =
     (mid : Volumed B) × (chunk : ℕ) × (overflow : Bool) × (store : B) × (found : Found) × IsLoaded holds m layers failed chunk overflow store number found old mid × AreLoaded holds m layers failed numbers mid new
 
--- Files with these bytes are opened: over an origin's a snapshot's store is loaded, maybe further ones, and that snapshot is merged.
-pub record IsMergedFrom {B : Type 0} (holds : B → ℕ → List ℕ → Type 0) (m : Measures B) (layers : B → List Layer) (failed : B → Bool) (origin store : List ℕ) (new : Volumed B) : Type 0 where
+-- Files with these bytes are opened: over an origin's a snapshot's store is loaded under this number, maybe behind others, and maybe
+-- further ones.
+pub record IsLoadedFrom {B : Type 0} (holds : B → ℕ → List ℕ → Type 0) (m : Measures B) (layers : B → List Layer) (failed : B → Bool) (origin store : List ℕ) (number : ℕ) (new : Volumed B) : Type 0 where
   pub old : Volumed B
   pub origin_is : m.contents old.origin ≡ origin
   pub device : B
   pub store_is : m.contents device ≡ store
   pub chunk : ℕ
   pub overflow : Bool
-  pub number : ℕ
   pub found : Found
   pub loaded : Volumed B
   pub loads : IsLoaded holds m layers failed chunk overflow device number found old loaded
   pub others : List ℕ
+  pub more : AreLoaded holds m layers failed others loaded new
+  pub kept : is_loud_in_all layers new ≡ true
+
+-- And then that snapshot is merged.
+pub record IsMergedFrom {B : Type 0} (holds : B → ℕ → List ℕ → Type 0) (m : Measures B) (layers : B → List Layer) (failed : B → Bool) (origin store : List ℕ) (new : Volumed B) : Type 0 where
+  pub number : ℕ
   pub opened : Volumed B
-  pub more : AreLoaded holds m layers failed others loaded opened
-  pub kept : is_loud_in_all layers opened ≡ true
+  pub from : IsLoadedFrom holds m layers failed origin store number opened
   pub merges : IsMerged holds m.contents layers m.size failed number opened new
 
 -- Whatever a stop leaves of the origin's file and of the snapshot's, merged it gives its array back.

@@ -1,7 +1,7 @@
 -- To be believed: what `serve_commands` says of a stop at any moment of a session is said in these words.
 -- A volume over files is served call by call. What a flush makes last is noted, as `volume_history` notes it; and whatever a stop leaves
 -- of all files together, at any moment, shows it. holds: what a file may hold in a sector after a stop. This project's own.
-use Rattle.std.specs.Prelude.{◌≡◌, ◌⊎◌, ℕ, Bool, true, false, List, [], ◌∷◌, map, Option, None, Some, Result, Ok}
+use Rattle.std.specs.Prelude.{◌≡◌, ◌⊎◌, ◌++◌, ℕ, Bool, true, false, List, [], ◌∷◌, map, Option, None, Some, Result, Ok}
 use Rattle.std.specs.List.{All}
 use Rattle.sector.specs.declared.refusal.Refusal.{Refusal}
 use Rattle.device.specs.Layers.{Layer, is_loud}
@@ -25,6 +25,7 @@ use Rattle.volume_nbd.specs.Faults.{is_failed_at}
 use Rattle.volume_nbd.specs.Served.{Served}
 use Rattle.volume_nbd.specs.Steps.{is_back, is_idle}
 use Rattle.volume_nbd.specs.Submits.{IsOf}
+use Rattle.session_laws.specs.Carrying.{Carries}
 use Rattle.session_laws.specs.Keeping.{KeepsNow}
 
 -- What is noted of a call: a piece that is taken in is a request of the volume, and a step is an event of it, or none.
@@ -50,13 +51,17 @@ LosesInCall holds m layers (Step told) before old new =
 abbrev pub LosesNow : {B : Type 0} → (B → ℕ → List ℕ → Type 0) → Measures B → (B → List Layer) → History → Served B → Type 0
 LosesNow holds m layers h v = is_loud_in_all layers v.volume ≡ true → LosesNothing holds m.size h.made v.volume v.volume
 
+-- And whatever it leaves is what the next session shows.
+abbrev pub CarriesNow : {B : Type 0} → (B → ℕ → List ℕ → Type 0) → Measures B → (B → List Layer) → (B → Bool) → History → Served B → Type 0
+CarriesNow holds m layers failed h v = is_loud_in_all layers v.volume ≡ true → Carries holds m layers failed h.made v.volume
+
 -- Calls one after another, the last of which stands first: from what is known to last before all of them to what is known behind them.
--- Behind each call nothing is lost, and what the calls so far wrote nothing of is kept.
+-- Behind each call nothing is lost, the next session shows it, and what the calls so far wrote nothing of is kept.
 abbrev pub LosesThrough : {B : Type 0} → (B → ℕ → List ℕ → Type 0) → Measures B → (B → List Layer) → (B → Bool) → History → Served B → List Call → Served B → History → Type 0
-LosesThrough holds m layers failed first start [] new after = (new ≡ start) × (after ≡ first) × LosesNow holds m layers after new × KeepsNow holds m layers failed start [] new
+LosesThrough holds m layers failed first start [] new after = (new ≡ start) × (after ≡ first) × LosesNow holds m layers after new × CarriesNow holds m layers failed after new × KeepsNow holds m layers failed start [] new
 LosesThrough {B} holds m layers failed first start (call ∷ calls) new after =
     (old : Served B) × (before : History) × LosesThrough holds m layers failed first start calls old before × does_by holds m.contents layers m.size m.faults m.done failed call old new
-    × LosesInCall holds m layers call before old new × Notes m layers failed call before old new after × LosesNow holds m layers after new × KeepsNow holds m layers failed start (call ∷ calls) new
+    × LosesInCall holds m layers call before old new × Notes m layers failed call before old new after × LosesNow holds m layers after new × CarriesNow holds m layers failed after new × KeepsNow holds m layers failed start (call ∷ calls) new
 
 -- A volume as it is opened: of each file that kept all that it answered, a stop leaves nothing but what is there.
 pub record AreFirm {B : Type 0} (holds : B → ℕ → List ℕ → Type 0) (m : Measures B) (layers : B → List Layer) (v : Volumed B) : Type 0 where
@@ -64,12 +69,12 @@ pub record AreFirm {B : Type 0} (holds : B → ℕ → List ℕ → Type 0) (m :
   pub stores : All (λ (s : Kept B). is_loud (layers s.device) ≡ true → IsFirm (holds s.device) (m.contents s.device) (m.size s.device)) v.snaps
   pub merging : (g : Merging B) → v.merge ≡ Some g → is_loud (layers g.device) ≡ true → IsFirm (holds g.device) (m.contents g.device) (m.size g.device)
 
--- What is known to last then: each array as it is shown.
+-- What is known to last then: each array as it is shown, and what is carried over from the sessions before.
 abbrev pub as_shown : Plain → Option ℕ → Flushed
 as_shown p array = with_bytes p (record { array = array; bytes = []; since = [] })
 
-abbrev pub opened : Plain → History
-opened p = record { made = as_shown p None ∷ map (λ e. as_shown p (Some e.number)) p.saved; asked = [] }
+abbrev pub opened : List Flushed → Plain → History
+opened carried p = record { made = (as_shown p None ∷ map (λ e. as_shown p (Some e.number)) p.saved) ++ carried; asked = [] }
 
 -- Nothing is known to last of a volume without a snapshot: its origin was not flushed as it was opened.
 abbrev pub known_with : {B : Type 0} → List (Kept B) → Option (Merging B) → History → History
@@ -77,8 +82,8 @@ known_with [] None h = record { made = []; asked = [] }
 known_with [] (Some merge) h = h
 known_with (s ∷ snaps) merge h = h
 
-abbrev pub known_first : {B : Type 0} → Measures B → (B → List Layer) → Volumed B → History
-known_first m layers v = known_with v.snaps v.merge (opened (plain_of m.contents layers v))
+abbrev pub known_first : {B : Type 0} → Measures B → (B → List Layer) → List Flushed → Volumed B → History
+known_first m layers carried v = known_with v.snaps v.merge (opened carried (plain_of m.contents layers v))
 
 -- A volume that is opened: no request is in flight, and of one with a snapshot a stop leaves nothing but what is there.
 pub record IsOpened {B : Type 0} (holds : B → ℕ → List ℕ → Type 0) (m : Measures B) (layers : B → List Layer) (v : Volumed B) : Type 0 where

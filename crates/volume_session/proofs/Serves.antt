@@ -27,9 +27,16 @@ module _ {B : Type 0} (holds : B → ℕ → List ℕ → Type 0) (m : Measures 
       → IfOk ended (λ finish. IfSome heard.client (λ bytes. (said : List ℕ) × IsSession exports finish calls bytes said × Appends heard.before heard.after said))
       → StepsTo (does_by holds m.contents layers m.size m.faults m.done failed) left new → IsServed holds m layers failed exports start new ended heard
   served_by ended heard calls called says (more, gone, steps) =
-      let t = through holds m layers failed whole here (known_first m layers start.volume) start (more ++ calls) new (first_known holds m layers failed whole here start.volume looked opened) (kept_first holds m layers failed start opened.idle)
-      (called_then (does_by holds m.contents layers m.size m.faults m.done failed) start left new calls more called gone) in
-      record { calls = calls; says = says; more = more; steps = steps; known = t.after; loses = t.loses }
+      let all = called_then (does_by holds m.contents layers m.size m.faults m.done failed) start left new calls more called gone in
+      record {
+        calls = calls;
+        says = says;
+        more = more;
+        steps = steps;
+        loses = λ carried are.
+            (let t = through holds m layers failed whole here (known_first m layers carried start.volume) start (more ++ calls) new (first_known holds m layers failed whole here start.volume carried are looked opened) (kept_first holds m layers failed start carried opened.idle) all in
+            (t.after, t.loses));
+      }
 
   pub is_served : (ended : Result Finish Ended) (heard : Heard)
       → IfOk ended (λ finish. (calls : List Call) × Called (does_by holds m.contents layers m.size m.faults m.done failed) start calls left × IfSome heard.client (λ bytes. (said : List ℕ) × IsSession exports finish calls bytes said × Appends heard.before heard.after said))

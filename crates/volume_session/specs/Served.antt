@@ -2,19 +2,22 @@
 -- A client is served from a volume that was opened. Every call of the volume is on one list, the client's and then a merge's, so each
 -- moment of the session is: whatever a stop then leaves of all files together shows what was made last, or what a write since gives; and a
 -- snapshot that the client wrote nothing of is as it was opened, or is lost. What was made last is, to begin with, each array as it was
--- opened, and then each as a flush of it found it that was answered. Where the session ends well, what was said to the client are the
--- replies to its requests, as the calls have them. holds: what a file may hold in a sector after a stop. This project's own.
+-- opened, and what is carried over from the sessions before; and then each array as a flush of it found it that was answered. Where the
+-- session ends well, what was said to the client are the replies to its requests, as the calls have them. holds: what a file may hold in a
+-- sector after a stop. This project's own.
 use Rattle.std.specs.Prelude.{ℕ, ◌++◌, Bool, List, [], ◌∷◌, Option, Result, IfOk, IfSome}
 use Rattle.std.specs.Io.KnownBytes.{Appends}
 use Rattle.device.specs.Layers.{Layer}
 use Rattle.volume.specs.Layering.{Measures}
-use Rattle.volume_history.specs.Flushed.{History}
+use Rattle.volume.specs.Volumed.{plain_of}
+use Rattle.volume_history.specs.Flushed.{Flushed, History}
 use Rattle.nbd_options.specs.declared.export.Export.{Export}
 use Rattle.served_array.specs.Calls.{Call, Called, Choose, Submit, Step}
 use Rattle.nbd_session.specs.Session.{IsSession}
 use Rattle.nbd_session.specs.declared.ended.Ended.{Ended}
 use Rattle.nbd_session.specs.declared.ended.Finish.{Finish}
 use Rattle.volume_nbd.specs.Served.{Served}
+use Rattle.session_laws.specs.Carrying.{AreShown}
 use Rattle.session_laws.specs.Sessions.{LosesThrough, known_first}
 
 -- An array came from one state to another by some steps, the last of which stands first, and by nothing else.
@@ -39,5 +42,6 @@ pub record IsServed {B : Type 0} (holds : B → ℕ → List ℕ → Type 0) (m 
   -- and behind the client a merge goes on, by steps
   pub more : List Call
   pub steps : AreSteps more
-  pub known : History
-  pub loses : LosesThrough holds m layers failed (known_first m layers start.volume) start (more ++ calls) new known
+  -- whatever is carried over from the sessions before
+  pub loses : (carried : List Flushed) → AreShown (plain_of m.contents layers start.volume) (m.size start.volume.origin) carried
+      → (known : History) × LosesThrough holds m layers failed (known_first m layers carried start.volume) start (more ++ calls) new known
