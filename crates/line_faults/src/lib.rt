@@ -1,8 +1,8 @@
 //! Which word of a line of commands breaks its form, and what would be right, in one plain sentence.
 //!
 //! It stands on `words` for the forms of words, and on `command` for data words. It knows no device, and changes no answer: `command`
-//! says what a line says, and this looks at lines that were refused. It promises that the word that a fault names stands at its place in
-//! the line. Which sentence stands behind which line is no clause; tests show them.
+//! says what a line says, and this looks at lines that were refused. It promises that a line has the form that a table of forms says, that
+//! the first word that breaks it is told of, or else what is wrong though each word fits, and that exactly the stated sentence is written.
 #![tactic(auto)]
 
 mod fault;

@@ -1,0 +1,4 @@
+pub mod FaultLemmas
+pub mod TellsLemmas
+pub mod Behind
+pub mod NearLemmas
