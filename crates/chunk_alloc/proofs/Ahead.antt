@@ -3,9 +3,9 @@ use Rattle.std.proofs.Common.{◌≡◌, ℕ, ◌+◌, ◌*◌, ◌/◌, ◌%◌
 use Rattle.std.proofs.lemmas.Bool.{cases_Bool, cases_lt, cases_eq, true≢false, cond-true, cond-false}
 use Rattle.std.proofs.lemmas.Nat.{mul-le, mod-mul-add}
 use Rattle.std.proofs.Math.Nat.{mod-add-div'}
-use Rattle.store_bytes.specs.Places.{area_place, is_area_place}
-use Rattle.store_bytes.specs.NextPlace.{stepped}
-use Rattle.store_bytes.proofs.AreaPlaces.{place_is, place_from, rows_below}
+use Rattle.cow_format.specs.Places.{area_place, is_area_place}
+use Rattle.cow_format.specs.NextPlace.{stepped}
+use Rattle.cow_format.proofs.AreaPlaces.{place_is, place_from, rows_below}
 
 -- the area after an area
 pub area_then : (chunk n : ℕ) → 0 < chunk → is_area_place chunk n ≡ true → is_area_place chunk (n + (32 * chunk + 1)) ≡ true

@@ -2,8 +2,8 @@
 use Rattle.std.proofs.Common.{◌≡◌, ℕ, ◌+◌, ◌*◌, ◌%◌, ◌<◌, ◌≤◌, arith, false, ap, ◌∙◌, inl, inr}
 use Rattle.std.proofs.lemmas.Bool.{cases_lt, ne_eqb}
 use Rattle.std.proofs.lemmas.Nat.{mul-le, mod-mul-add}
-use Rattle.store_bytes.specs.Places.{area_place, is_area_place}
-use Rattle.store_bytes.proofs.NextPlaces.{place_small}
+use Rattle.cow_format.specs.Places.{area_place, is_area_place}
+use Rattle.cow_format.proofs.NextPlaces.{place_small}
 
 -- an area that is wholly inside a store has a smaller number than its place, and both are below the store's sectors
 pub area_small : (chunk area sectors : ℕ) → 0 < chunk → chunk * (area_place chunk area + 1) ≤ sectors → (area + 1 ≤ sectors) × (area_place chunk area + 1 ≤ sectors)

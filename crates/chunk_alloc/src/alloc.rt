@@ -1,12 +1,12 @@
 // The next place of a store.
 ghost use Rattle.std.specs.Prelude.{◌≡◌, ℕ, ◌+◌, ◌*◌, ◌^◌, ◌<◌, ◌≤◌, List, [], ◌∷◌, ◌++◌, MatchOption, MatchBool, false, true};
-ghost use Rattle.store_bytes.specs.NextPlace.{IsNextPlace, IsFull, stepped};
-ghost use Rattle.store_bytes.specs.Places.{area_place, is_area_place as is_place};
+ghost use Rattle.cow_format.specs.NextPlace.{IsNextPlace, IsFull, stepped};
+ghost use Rattle.cow_format.specs.Places.{area_place, is_area_place as is_place};
 ghost use Rattle.chunk_alloc.specs.Greatest.{IsGreatest};
 
 use crate::Usage;
+use cow_format::is_area_place;
 use sector::Chunk;
-use store_bytes::is_area_place;
 
 /// The places that a store of so many sectors hands out, in chunks of so many sectors.
 #[derive(Clone, Copy, PartialEq, Eq)]

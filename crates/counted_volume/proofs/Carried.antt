@@ -15,8 +15,8 @@ use Rattle.in_flight.specs.Copies.{count_of}
 use Rattle.in_flight.specs.Due.{first_by, is_stage, number_of_mark}
 use Rattle.in_flight.specs.Flushed.{flushed_stage, safe_mark}
 use Rattle.volume_laws.specs.Due.{is_unsafe}
-use Rattle.big_steps.specs.Devices.{Device, sectors_of, answers, met, written_by}
-use Rattle.big_steps.proofs.Each.{Each, each_weaker}
+use Rattle.whole_commands.specs.Devices.{Device, sectors_of, answers, met, written_by}
+use Rattle.whole_commands.proofs.Each.{Each, each_weaker}
 use Rattle.event_machine.specs.Held.{Copying, SnapHeld, Going, Moving, number_of, with_store, spoiled, flushed_copying, flushed_held}
 use Rattle.event_machine.specs.Due.{batch_of, can_mark, can_flush_store, can_commit, is_front_ready, is_front_unflushed, needs_area, waits_for_area, publishable_in, is_publishable, least_in, due}
 use Rattle.event_machine.specs.Stepping.{for_some, first_that, with_first, put, spoil, store_write, read_copy, write_copy, commit, flush_store, is_copy, stepped}

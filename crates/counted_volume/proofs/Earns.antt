@@ -31,7 +31,7 @@ use Rattle.volume.specs.Submitting.{IsAcceptedAs, IsRefusedAs}
 use Rattle.volume.specs.Telling.{IsRelayeredAt}
 use Rattle.volume.specs.Volumed.{Volumed, plain_of}
 use Rattle.volume.proofs.Named.{found_within}
-use Rattle.audit.specs.Earned.{AreEarned, merges_of}
+use Rattle.audited_volume.specs.Earned.{AreEarned, merges_of}
 use Rattle.counted_volume.proofs.Refusing.{refused_given}
 
 -- what says how many merges there are

@@ -29,14 +29,14 @@ use Rattle.volume.specs.Stepping.{KeepsDevices}
 use Rattle.volume.specs.Submitting.{IsAcceptedAs, IsFoundFull, IsOverflown, IsRefusedAs, SameButRoom}
 use Rattle.volume.specs.Volumed.{Volumed, plain_of}
 use Rattle.volume.proofs.FewerLives.{accepted_lives, caused_lives, roomed_lives, same_fewer, same_lives, set_fewer, set_lives, set_own, then_fewer}
-use Rattle.audit.specs.Books.{AuditShape}
-use Rattle.audit.specs.Earned.{AreEarned, merges_of}
-use Rattle.audit.specs.PlacesTaken.{places_for, places_of}
-use Rattle.audit.specs.Noted.{kept_count, live_count, may_count, mays_of}
-use Rattle.audit.specs.Seats.{Seated, flight_in}
-use Rattle.audit.proofs.Beginning.{lives_more, mays_more}
-use Rattle.audit.proofs.Lives.{begun_lives, begun_mays, finished_lives, gained_lives, gained_mays, mays_by, roomed_map, unbegun_lives, unseen_lives, unseen_mays, without_lives, without_mays}
-use Rattle.audit.proofs.Mays.{IsFewer, bit, may_fewer, may_more, may_removed}
+use Rattle.audited_volume.specs.Books.{AuditShape}
+use Rattle.audited_volume.specs.Earned.{AreEarned, merges_of}
+use Rattle.audited_volume.specs.PlacesTaken.{places_for, places_of}
+use Rattle.audited_volume.specs.Noted.{kept_count, live_count, may_count, mays_of}
+use Rattle.audited_volume.specs.Seats.{Seated, flight_in}
+use Rattle.audited_volume.proofs.Beginning.{lives_more, mays_more}
+use Rattle.audited_volume.proofs.Lives.{begun_lives, begun_mays, finished_lives, gained_lives, gained_mays, mays_by, roomed_map, unbegun_lives, unseen_lives, unseen_mays, without_lives, without_mays}
+use Rattle.audited_volume.proofs.Mays.{IsFewer, bit, may_fewer, may_more, may_removed}
 use Rattle.counted_volume.specs.Places.{HasPlaces, kept_for_marks}
 use Rattle.counted_volume.proofs.Earns.{HasAsMany, accepted_many, begun_earned, finished_earned, gained_earned, left_earned, many_earned, merges_few, refused_many, unbegun_many, unseen_many}
 use Rattle.counted_volume.proofs.Flown.{fewer_fly}

@@ -9,12 +9,12 @@ use Rattle.plain_machine.specs.declared.event.Event.{Event}
 use Rattle.plain_machine.specs.declared.event.Event.TheVariants.{CopyRead, CopyWrite, WriteArea, FlushStore}
 use Rattle.in_flight.specs.declared.copies.Stage.{Stage}
 use Rattle.in_flight.specs.declared.copies.Stage.TheVariants.{Waiting, Read, Written, Flushed}
-use Rattle.store_bytes.specs.Places.{area_place}
+use Rattle.cow_format.specs.Places.{area_place}
 use Rattle.in_flight.specs.Copies.{count_of}
 use Rattle.in_flight.specs.Due.{first_by, least, is_stage}
 use Rattle.sector.specs.Bytes.{sectors_at}
-use Rattle.big_steps.specs.Devices.{sectors_of, answers, met, written_by}
-use Rattle.big_steps.proofs.Each.{Each, each_weaker}
+use Rattle.whole_commands.specs.Devices.{sectors_of, answers, met, written_by}
+use Rattle.whole_commands.proofs.Each.{Each, each_weaker}
 use Rattle.event_machine.specs.Held.{Copying, SnapHeld, Moving, number_of, with_store, spoiled}
 use Rattle.event_machine.specs.Due.{batch_of, filled_of, can_mark, can_flush_store, can_commit, can_zero, is_at, is_ready, is_front_ready, is_front_unflushed, number_of_copying, copy_at, publishable_in, least_in, chosen, due}
 use Rattle.event_machine.specs.Stepping.{for_some, first_that, with_first, put, spoil, store_write, read_copy, write_copy, pair_of, mark_of, all_paired, commit, flush_store, is_copy, stepped}

@@ -15,8 +15,8 @@ use Rattle.in_flight.specs.declared.copies.Stage.TheVariants.{Waiting, Read}
 use Rattle.in_flight.specs.declared.flights.Route.{Route}
 use Rattle.in_flight.specs.declared.flights.Route.TheVariants.{Held as Waits, Origin, Store, Whole, Refused}
 use Rattle.volume_laws.specs.MergeDue.{has_group, is_none, next_pair, one_of, due_or}
-use Rattle.big_steps.specs.Devices.{answers, sectors_of}
-use Rattle.big_steps.specs.Saving.{lacks_area}
+use Rattle.whole_commands.specs.Devices.{answers, sectors_of}
+use Rattle.whole_commands.specs.Saving.{lacks_area}
 use Rattle.event_machine.specs.Held.{Copying, SnapHeld, Going, MergeHeld, Moving, group_in}
 use Rattle.event_machine.specs.Due.{due, batch_of}
 use Rattle.event_machine.specs.MergeDue.{merge_due, due_all, next_of, can_group, can_read_area, can_read, can_write, can_flush, can_commit_group, can_release}

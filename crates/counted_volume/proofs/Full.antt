@@ -14,8 +14,8 @@ use Rattle.plain_machine.specs.declared.request.Request.{Request}
 use Rattle.in_flight.specs.Kinds.{kind_of}
 use Rattle.in_flight.specs.declared.flights.Kind.{Kind}
 use Rattle.in_flight.specs.declared.flights.Kind.TheVariants.{OriginRead, OriginWrite, OriginFlush, SnapRead, SnapWrite, SnapFlush}
-use Rattle.big_steps.specs.Refusals.{is_starved}
-use Rattle.big_steps.proofs.Starved.{other_full}
+use Rattle.whole_commands.specs.Refusals.{is_starved}
+use Rattle.whole_commands.proofs.Starved.{other_full}
 use Rattle.store.specs.Opening.{IsRefused}
 use Rattle.snapshot.specs.Kept.{Kept}
 use Rattle.snapshot_list.specs.Finding.{place_of_snap}

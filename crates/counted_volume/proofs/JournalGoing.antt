@@ -19,15 +19,15 @@ use Rattle.volume.specs.Leaving.{IsWithout}
 use Rattle.volume.specs.Submitting.{IsAcceptedAs, IsRefusedAs}
 use Rattle.volume.specs.Volumed.{Volumed, is_loud_in_all, plain_of}
 use Rattle.volume.proofs.Declines.{refused_declined}
-use Rattle.audit.specs.declared.entry.Entry.{Entry}
-use Rattle.audit.specs.declared.entry.Entry.TheVariants.{Answered, Attached, Begun, Detached, Finished, Overflowed, Spoiled}
-use Rattle.audit.specs.Replay.{AllLawful, IsLawful, after, plain_in, replay, served}
-use Rattle.audit.proofs.Changes.{finished_does}
-use Rattle.audit.proofs.Departed.{begun_does, detached_does}
-use Rattle.audit.proofs.Gained.{attached_does}
-use Rattle.audit.proofs.Keeping.{spoils_of}
-use Rattle.audit.proofs.Replaying.{lawful_is, lawful_then, replay_then, served_is}
-use Rattle.audit.proofs.Spoils.{lost_lawful, lost_of, replay_lost}
+use Rattle.audited_volume.specs.declared.entry.Entry.{Entry}
+use Rattle.audited_volume.specs.declared.entry.Entry.TheVariants.{Answered, Attached, Begun, Detached, Finished, Overflowed, Spoiled}
+use Rattle.audited_volume.specs.Replay.{AllLawful, IsLawful, after, plain_in, replay, served}
+use Rattle.audited_volume.proofs.Changes.{finished_does}
+use Rattle.audited_volume.proofs.Departed.{begun_does, detached_does}
+use Rattle.audited_volume.proofs.Gained.{attached_does}
+use Rattle.audited_volume.proofs.Keeping.{spoils_of}
+use Rattle.audited_volume.proofs.Replaying.{lawful_is, lawful_then, replay_then, served_is}
+use Rattle.audited_volume.proofs.Spoils.{lost_lawful, lost_of, replay_lost}
 use Rattle.counted_volume.specs.GoingOn.{ComesTo, GoesOn, IsSubmitNoted}
 
 goes_on : (p q : Plain) (es : List Entry) → AllLawful (shown_of p) es → replay (shown_of p) es ≡ shown_of q → GoesOn p es q

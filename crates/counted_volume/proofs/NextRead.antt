@@ -14,7 +14,7 @@ use Rattle.in_flight.specs.declared.copies.Stage.TheVariants.{Waiting, Read, Wri
 use Rattle.in_flight.specs.declared.flights.Flight.{Flight}
 use Rattle.in_flight.specs.Due.{first_by, is_copy_at, is_issuable as is_issuable_in, is_stage, least, number_of_copy, number_of_flight, number_of_mark}
 use Rattle.volume_laws.specs.Due.{copy_of, event_or, is_unsafe, least_of}
-use Rattle.big_steps.proofs.Each.{Each, each_weaker}
+use Rattle.whole_commands.proofs.Each.{Each, each_weaker}
 use Rattle.event_machine.specs.Held.{Copying, SnapHeld, Moving, number_of}
 use Rattle.event_machine.specs.Due.{can_mark, can_flush_store, can_commit, can_zero, copy_at, is_at, is_front_ready, is_front_unflushed, needs_area, waits_for_area, publishable_in, is_issuable, is_publishable, least_in, number_of_copying, number_of_going, due}
 use Rattle.event_machine.specs.Seen.{copying_of, going_of}

@@ -4,7 +4,7 @@ use Rattle.std.specs.Prelude.{◌&&◌, not}
 use Rattle.std.specs.List.{list_all}
 use Rattle.sector.specs.declared.refusal.Refusal.{Refusal}
 use Rattle.sector.specs.declared.refusal.Refusal.TheVariants.{Invalid}
-use Rattle.big_steps.specs.Refusals.{is_starved}
+use Rattle.whole_commands.specs.Refusals.{is_starved}
 use Rattle.device.specs.Layers.{Layer}
 use Rattle.plain_machine.specs.declared.request.Overflowing.TheVariants.{Did}
 use Rattle.plain_machine.specs.declared.request.Request.{Request}

@@ -17,7 +17,7 @@ use Rattle.in_flight.specs.declared.copies.Stage.TheVariants.{Read, Waiting}
 use Rattle.in_flight.specs.declared.flights.Flight.{Flight}
 use Rattle.in_flight.specs.Due.{first_by, is_issuable, number_of_flight}
 use Rattle.volume_laws.specs.Due.{copy_of, least_of}
-use Rattle.big_steps.proofs.Each.{Each}
+use Rattle.whole_commands.proofs.Each.{Each}
 use Rattle.volume_laws.specs.MergeDue.{has_group}
 use Rattle.event_machine.specs.Held.{SnapHeld, Moving}
 use Rattle.event_machine.specs.Due.{due}

@@ -15,7 +15,7 @@ use Rattle.plain_machine.specs.declared.event.Outcome.{Outcome}
 use Rattle.plain_machine.specs.declared.request.Overflowing.{Overflowing}
 use Rattle.plain_machine.specs.declared.request.Overflowing.TheVariants.{Did, May, Never}
 use Rattle.plain_machine.specs.declared.request.Request.{Request}
-use Rattle.big_steps.specs.Refusals.{IsStarved}
+use Rattle.whole_commands.specs.Refusals.{IsStarved}
 use Rattle.snapshot.specs.Kept.{Kept}
 use Rattle.snapshot.specs.declared.opening.StoreDev.{StoreDev}
 use Rattle.snapshot_list.specs.Finding.{place_of_snap}
@@ -31,9 +31,9 @@ use Rattle.volume.specs.Volumed.{Volumed}
 use Rattle.volume.proofs.FewerLives.{roomed_lives, set_own}
 use Rattle.volume.proofs.Named.{found_within}
 use Rattle.volume.proofs.Savings.{overflows_live}
-use Rattle.audit.specs.Noted.{live_count, may_count, mays_of}
-use Rattle.audit.proofs.Lives.{begun_lives, finished_lives, gained_lives, mays_by}
-use Rattle.audit.proofs.Mays.{may_marked}
+use Rattle.audited_volume.specs.Noted.{live_count, may_count, mays_of}
+use Rattle.audited_volume.proofs.Lives.{begun_lives, finished_lives, gained_lives, mays_by}
+use Rattle.audited_volume.proofs.Mays.{may_marked}
 use Rattle.counted_volume.specs.Places.{Counted, counted_with, kept_for_marks, kept_for_snaps}
 use Rattle.counted_volume.specs.TakesPlaces.{TakesByRequests, TakesPlaces, did_count, places_of_marks}
 use Rattle.counted_volume.proofs.Fewer.{alike_marks, roomed_mays, roomed_overflows, unbegun_marks}

@@ -20,10 +20,10 @@ use Rattle.in_flight.specs.Due.{first_by, number_of_mark}
 use Rattle.in_flight.specs.Flushed.{safe_mark}
 use Rattle.in_flight.specs.Kinds.{kind_at, kind_of}
 use Rattle.in_flight.specs.Routes.{reads_origin_of}
-use Rattle.store_bytes.specs.Places.{area_place}
+use Rattle.cow_format.specs.Places.{area_place}
 use Rattle.volume_laws.specs.Due.{is_unsafe}
-use Rattle.big_steps.specs.Devices.{sectors_of, answers, met, written_by}
-use Rattle.big_steps.proofs.Each.{Each, each_weaker}
+use Rattle.whole_commands.specs.Devices.{sectors_of, answers, met, written_by}
+use Rattle.whole_commands.proofs.Each.{Each, each_weaker}
 use Rattle.event_machine.specs.Held.{Copying, SnapHeld, Going, Moving, number_of, with_store, spoiled, flushed_copying, flushed_held}
 use Rattle.event_machine.specs.Due.{batch_of, filled_of, can_mark, can_flush_store, can_commit, can_zero, copy_at, is_front_ready, is_front_unflushed, needs_area, waits_for_area, is_reading, publishable_in, is_publishable, least_in, due}
 use Rattle.event_machine.specs.Stepping.{for_some, first_that, with_first, without_first, put, spoil, store_write, read_copy, write_copy, pair_of, mark_of, all_paired, commit, flush_store, publish, publishes, is_copy, stepped}

@@ -4,7 +4,7 @@ use Rattle.std.specs.Prelude.{◌≡◌, ◌⊎◌, true, ℕ, List}
 use Rattle.sector.specs.declared.refusal.Refusal.{Refusal}
 use Rattle.device.specs.Layers.{Layer}
 use Rattle.plain_machine.specs.declared.request.Request.{Request}
-use Rattle.big_steps.specs.Refusals.{IsStarved, is_starved}
+use Rattle.whole_commands.specs.Refusals.{IsStarved, is_starved}
 use Rattle.snapshot.specs.declared.opening.StoreDev.{StoreDev}
 use Rattle.volume.specs.Submitting.{IsRefusedAs}
 use Rattle.volume.specs.Taking.{IsNotTaken}

@@ -7,9 +7,9 @@ use Rattle.plain_machine.specs.declared.request.Dev.TheVariants.{Snap}
 use Rattle.plain_machine.specs.Plain.{Plain, Shown, asked_under, shown_of}
 use Rattle.sector.specs.declared.refusal.Refusal.{Refusal}
 use Rattle.sector.specs.declared.refusal.Refusal.TheVariants.{Overflow}
-use Rattle.audit.specs.declared.entry.Entry.{Entry}
-use Rattle.audit.specs.declared.entry.Entry.TheVariants.{Answered, Overflowed, Spoiled}
-use Rattle.audit.specs.Replay.{AllLawful, replay}
+use Rattle.audited_volume.specs.declared.entry.Entry.{Entry}
+use Rattle.audited_volume.specs.declared.entry.Entry.TheVariants.{Answered, Overflowed, Spoiled}
+use Rattle.audited_volume.specs.Replay.{AllLawful, replay}
 
 -- Whatever lawful entries gave what callers saw of a volume before, from whatever arrays and states: these behind them are
 -- lawful too, and give what callers see then.

@@ -4,8 +4,8 @@ use Rattle.sector.specs.declared.refusal.Refusal.{Refusal}
 use Rattle.sector.specs.declared.refusal.Refusal.TheVariants.{JournalFull}
 use Rattle.volume.specs.Causes.{lives_of}
 use Rattle.volume.specs.Volumed.{Volumed}
-use Rattle.audit.specs.Earned.{AreEarned}
-use Rattle.audit.specs.Noted.{kept_count, live_count, may_count, mays_of}
+use Rattle.audited_volume.specs.Earned.{AreEarned}
+use Rattle.audited_volume.specs.Noted.{kept_count, live_count, may_count, mays_of}
 
 -- a volume, and how many places of its journal are taken
 pub record Counted (B : Type 0) : Type 0 where

@@ -5,7 +5,7 @@ ghost use Rattle.sector.specs.declared.refusal.Refusal.TheVariants.{NoSuchDevice
 ghost use Rattle.chunk.specs.Sizes.{is_chunk};
 ghost use Rattle.plain_machine.specs.declared.event.Event.{Event};
 ghost use Rattle.plain_machine.specs.declared.request.Reply.{Reply};
-ghost use Rattle.big_steps.specs.MergeShown.{IsMerging};
+ghost use Rattle.whole_commands.specs.MergeShown.{IsMerging};
 ghost use Rattle.snapshot.specs.Kept.{Kept};
 ghost use Rattle.merge.specs.Due.{has_group_of};
 ghost use Rattle.merge.specs.Merging.{Merging, books_of as merging_books};

@@ -4,20 +4,20 @@ ghost use Rattle.plain_machine.specs.Plain.{may_overflow};
 ghost use Rattle.sector.specs.declared.refusal.Refusal.TheVariants.{NoMemory};
 ghost use Rattle.volume.specs.Causes.{lives_of};
 ghost use Rattle.volume.specs.Layering.{Measures};
-ghost use Rattle.volume_history.specs.Life.{HasLife};
+ghost use Rattle.volume_lifetime.specs.Life.{HasLife};
 ghost use Rattle.volume.specs.Volumed.{is_loud_in_all};
-ghost use Rattle.audit.specs.Earned.{AreEarned};
-ghost use Rattle.audit.specs.PlacesTaken.{places_of};
-ghost use Rattle.audit.specs.Noted.{kept_count, live_count, may_count, mays_of};
+ghost use Rattle.audited_volume.specs.Earned.{AreEarned};
+ghost use Rattle.audited_volume.specs.PlacesTaken.{places_of};
+ghost use Rattle.audited_volume.specs.Noted.{kept_count, live_count, may_count, mays_of};
 ghost use Rattle.counted_volume.specs.Places.{kept_for_marks, kept_free};
 
-use audit::{Audit, is_may};
+use audited_volume::{Audit, is_may};
 use layers::Layered;
 use sector::Refusal;
 use snapshot::Snapshot;
 use std::alloc::Global;
 use std::marker::Model;
-use volume_history::LivedVolume;
+use volume_lifetime::LivedVolume;
 
 /// A volume, and how many places of its journal are taken since the last checkpoint: one by each entry that would stand in it,
 /// by each request in flight, and by each live snapshot. One more is taken by each live snapshot whose store may still overflow,

@@ -7,7 +7,7 @@ ghost use Rattle.volume.specs.DoesStep.{DoesStep};
 ghost use Rattle.volume.specs.DoesSubmit.{DoesSubmit};
 ghost use Rattle.volume.specs.Lent.{is_bare, origin_write};
 ghost use Rattle.volume.specs.Volumed.{is_loud_in_all, plain_of};
-ghost use Rattle.audit.specs.declared.entry.Entry.{Entry};
+ghost use Rattle.audited_volume.specs.declared.entry.Entry.{Entry};
 ghost use Rattle.counted_volume.specs.Declined.{IsUnsent};
 ghost use Rattle.counted_volume.specs.Following.{AreMerged};
 ghost use Rattle.counted_volume.specs.GoingOn.{ComesTo, GoesOn, IsSubmitNoted};
@@ -16,7 +16,7 @@ ghost use Rattle.counted_volume.specs.TakesPlaces.{TakesByRequests, TakesPlaces}
 
 use crate::CountedVolume;
 use crate::counted_volume::count_may;
-use audit::MAX_ENTRIES;
+use audited_volume::MAX_ENTRIES;
 use layers::Layered;
 use plain_machine::{Event, NotDue, Outcome, Reply, ReqId, Request};
 use sector::{Range, Refusal};

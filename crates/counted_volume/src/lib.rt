@@ -2,7 +2,7 @@
 //! come to an entry are refused first of all where no place is left. Neither an entry nor an array is kept. What is known to follow
 //! an event that was done is done one after the other, without a search for what is due (`follow`, `follow_reads`, `follow_merge`).
 //!
-//! It stands on `volume`, whose calls it passes on, and on `audit`, whose audits it is made of and makes: an audit goes on from the
+//! It stands on `volume`, whose calls it passes on, and on `audited_volume`, whose audits it is made of and makes: an audit goes on from the
 //! count, and gives it back. It promises of each call what the volume's own contract promises, but that one for which there is no
 //! place is refused, and then nothing changed, and that this comes nowhere else; that there is a place for each request in flight,
 //! for each live snapshot, and for the mark of each of these that may still overflow, so that no event is ever refused, and no mark

@@ -4,8 +4,8 @@ use Rattle.std.specs.List.{range_with_len}
 use Rattle.std.proofs.lemmas.List.{ext_get_or}
 use Rattle.std.proofs.lemmas.List.FromFn.{map-range_with_len_more, length-map-range_with_len, get_or-map-range_with_len}
 use Rattle.sector.specs.declared.pair.Pair.{Pair}
-use Rattle.store_bytes.specs.Pairs.{pairs_of}
-use Rattle.store_bytes.specs.Picture.{byte_of, picture_at, picture}
+use Rattle.cow_format.specs.Pairs.{pairs_of}
+use Rattle.cow_format.specs.Picture.{byte_of, picture_at, picture}
 use Rattle.cow_image.specs.declared.map.CowMap.{CowMap}
 use Rattle.cow_image.specs.Maps.{IsMapOf}
 use Rattle.cow_image.proofs.Sorts.{old_differ}

@@ -1,7 +1,7 @@
 -- Reads that may fail.
 use Rattle.std.proofs.Common.{◌≡◌, ℕ, ◌+◌, ◌*◌, ◌<◌, ◌≤◌, List, Option, Some, None, refl, arith, ap, ◌∙◌, sym, subst, inl, inr}
 use Rattle.sector.specs.declared.pair.Pair.{Pair}
-use Rattle.store_bytes.specs.Picture.{place_of}
+use Rattle.cow_format.specs.Picture.{place_of}
 use Rattle.cow_image.specs.Runs.{IsRun, place_after}
 use Rattle.cow_image.specs.Fails.{ReadFails, PlaceFails, ShownFails}
 

@@ -6,9 +6,9 @@ use Rattle.std.proofs.lemmas.Bool.{cases_lt, cases_eq, ne_eqb, eq-eqb, cond-true
 use Rattle.std.proofs.lemmas.List.{get_or_default}
 use Rattle.std.proofs.lemmas.List.Sorted.{All-permutation, IsPermutation-sym}
 use Rattle.sector.specs.declared.pair.Pair.{Pair}
-use Rattle.store_bytes.specs.Picture.{place_of}
-use Rattle.store_bytes.proofs.Pictures.{place_found}
-use Rattle.store_bytes.proofs.Views.{place_none}
+use Rattle.cow_format.specs.Picture.{place_of}
+use Rattle.cow_format.proofs.Pictures.{place_found}
+use Rattle.cow_format.proofs.Views.{place_none}
 use Rattle.cow_image.specs.Sorted.{IsRisingBy, old_of}
 use Rattle.cow_image.proofs.Lists.{no_chunks}
 use Rattle.cow_image.proofs.Sorts.{Differ, rising_far}

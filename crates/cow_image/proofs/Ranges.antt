@@ -4,7 +4,7 @@ use Rattle.std.specs.Prelude.{Some, None}
 use Rattle.std.proofs.lemmas.List.{places, same_lists}
 use Rattle.std.proofs.Math.Nat.{div-add-mod', div-lt_iff_lt-mul, mod-lt}
 use Rattle.sector.specs.declared.pair.Pair.{Pair}
-use Rattle.store_bytes.specs.Picture.{picture_at}
+use Rattle.cow_format.specs.Picture.{picture_at}
 use Rattle.cow_image.specs.Runs.{IsRun}
 use Rattle.cow_image.specs.Shown.{shown}
 use Rattle.cow_image.proofs.Shown.{byte_got, byte_shown, rest_of}

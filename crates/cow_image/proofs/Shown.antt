@@ -4,7 +4,7 @@ use Rattle.std.proofs.lemmas.Nat.{div-mul-add, mod-mul-add}
 use Rattle.std.proofs.lemmas.List.{get_or-take, get_or-drop}
 use Rattle.std.specs.Prelude.{Option}
 use Rattle.sector.specs.declared.pair.Pair.{Pair}
-use Rattle.store_bytes.specs.Picture.{place_of, byte_of, picture_at}
+use Rattle.cow_format.specs.Picture.{place_of, byte_of, picture_at}
 
 -- a byte of what was read
 pub byte_got : (b : List ℕ) (at n i : ℕ) → i < n → get_or (take n (drop at b)) i 0 ≡ get_or b (at + i) 0

@@ -10,7 +10,7 @@ use Rattle.std.proofs.lemmas.List.Sorted.{IsPermutation-map, IsPermutation-sym}
 use Rattle.std.proofs.lemmas.Map.Keys.{apart_from_distinct, IsDistinct-from_apart, IsDistinct-IsPermutation}
 use Rattle.std.proofs.lemmas.Cmp.{nat_eq_equiv}
 use Rattle.sector.specs.declared.pair.Pair.{Pair}
-use Rattle.store_bytes.specs.Pairs.{IsApart}
+use Rattle.cow_format.specs.Pairs.{IsApart}
 use Rattle.cow_image.specs.Sorted.{IsRisingBy, StandsTwice, old_of, new_of}
 use Rattle.cow_image.proofs.Lists.{no_chunks}
 

@@ -9,8 +9,8 @@ use Rattle.sector.specs.declared.pair.Pair.{Pair}
 use Rattle.sector.specs.Bytes.{sector_at}
 use Rattle.cow_header.specs.HeaderText.{found_in}
 use Rattle.cow_header.specs.declared.found.Found.TheVariants.{Header as GoodHeader}
-use Rattle.store_bytes.specs.Places.{area_place}
-use Rattle.store_bytes.specs.Pairs.{pairs_of, IsApart, IsInside, AreWellFormed}
+use Rattle.cow_format.specs.Places.{area_place}
+use Rattle.cow_format.specs.Pairs.{pairs_of, IsApart, IsInside, AreWellFormed}
 use Rattle.cow_image.specs.declared.fault.Fault.{Fault}
 use Rattle.cow_image.specs.declared.found.Reason.TheVariants.{NoArea, Pairs}
 use Rattle.cow_image.specs.Judged.{IsFirstFault, IsLacking}

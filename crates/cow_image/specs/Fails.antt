@@ -2,7 +2,7 @@
 -- own bytes, may.
 use Rattle.std.specs.Prelude.{ℕ, ◌+◌, ◌*◌, ◌^◌, ◌≤◌, ◌⊎◌, List, Option, Some, None}
 use Rattle.sector.specs.declared.pair.Pair.{Pair}
-use Rattle.store_bytes.specs.Picture.{place_of}
+use Rattle.cow_format.specs.Picture.{place_of}
 
 -- a read of an image may fail; it does where it begins behind all bytes that have numbers
 abbrev pub ReadFails : (ℕ → ℕ → Type 0) → ℕ → ℕ → Type 0

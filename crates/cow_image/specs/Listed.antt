@@ -1,7 +1,7 @@
 -- How the areas of a store end.
 use Rattle.std.specs.Prelude.{◌≡◌, ℕ, ◌<◌, List, ⊤}
 use Rattle.sector.specs.declared.pair.Pair.{Pair}
-use Rattle.store_bytes.specs.Pairs.{pairs_of}
+use Rattle.cow_format.specs.Pairs.{pairs_of}
 use Rattle.cow_image.specs.declared.reading.Listed.{Listed}
 use Rattle.cow_image.specs.declared.reading.Listed.TheVariants.{Ends, Lacks}
 use Rattle.cow_image.specs.Judged.{IsLacking}

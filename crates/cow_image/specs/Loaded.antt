@@ -1,9 +1,9 @@
 -- Pairs that are read area by area.
 use Rattle.std.specs.Prelude.{◌≡◌, ◌≢◌, ℕ, ◌+◌, ◌*◌, ◌<◌, ◌≤◌, List, length, slice_index_or}
 use Rattle.sector.specs.declared.pair.Pair.{Pair}
-use Rattle.store_bytes.specs.Slots.{pair_in}
-use Rattle.store_bytes.specs.Places.{chunk_at, area_place, slot}
-use Rattle.store_bytes.specs.Pairs.{pairs_of}
+use Rattle.cow_format.specs.Slots.{pair_in}
+use Rattle.cow_format.specs.Places.{chunk_at, area_place, slot}
+use Rattle.cow_format.specs.Pairs.{pairs_of}
 
 -- a list of pairs that has those of an area's first slots more, up to the first that is empty
 pub record IsLoaded (pairs pairs' : List Pair) (area : List ℕ) (slots count : ℕ) : Type 0 where

@@ -4,7 +4,7 @@ use Rattle.std.specs.List.Sorted.{IsPermutation}
 use Rattle.sector.specs.Bytes.{sector_at}
 use Rattle.cow_header.specs.HeaderText.{found_in}
 use Rattle.cow_header.specs.declared.found.Found.TheVariants.{Fresh as NoHeader, Header as GoodHeader}
-use Rattle.store_bytes.specs.Pairs.{pairs_of, AreWellFormed}
+use Rattle.cow_format.specs.Pairs.{pairs_of, AreWellFormed}
 use Rattle.cow_image.specs.declared.map.CowMap.{CowMap}
 use Rattle.cow_image.specs.declared.found.Reason.{Reason}
 use Rattle.cow_image.specs.declared.found.Reason.TheVariants.{Empty, Header, TooSmall, NoRoom, NoArea, Pairs}

@@ -1,7 +1,7 @@
 -- Chunks in a row.
 use Rattle.std.specs.Prelude.{◌≡◌, ℕ, ◌+◌, ◌<◌, ◌≤◌, List, length, slice_index_or, Option, Some, None}
 use Rattle.sector.specs.declared.pair.Pair.{Pair}
-use Rattle.store_bytes.specs.Picture.{place_of}
+use Rattle.cow_format.specs.Picture.{place_of}
 
 -- the place so many chunks after one, if there is one
 abbrev pub place_after : Option ℕ → ℕ → Option ℕ

@@ -2,7 +2,7 @@
 use Rattle.std.specs.Prelude.{◌≡◌, ℕ, List, ◌++◌, map}
 use Rattle.std.specs.List.{range_with_len}
 use Rattle.sector.specs.declared.pair.Pair.{Pair}
-use Rattle.store_bytes.specs.Picture.{picture_at}
+use Rattle.cow_format.specs.Picture.{picture_at}
 
 -- so many bytes of the picture by these pairs, from one on
 abbrev pub shown : ℕ → List ℕ → List ℕ → List Pair → ℕ → ℕ → List ℕ

@@ -1,7 +1,7 @@
 -- The numbers of a status line, in sectors, as the kernel counts them.
 use Rattle.std.specs.Prelude.{ℕ, ◌+◌, ◌*◌, List, fold, max, if◌then◌else◌}
 use Rattle.sector.specs.declared.pair.Pair.{Pair}
-use Rattle.store_bytes.specs.Places.{is_area_place}
+use Rattle.cow_format.specs.Places.{is_area_place}
 
 -- the chunk after the greatest new chunk of these pairs, from 2 on
 abbrev pub past_new : List Pair → ℕ

@@ -1,7 +1,7 @@
 // A snapshot's array is written out.
 ghost use Rattle.std.specs.Prelude.{◌≡◌, ℕ, ◌+◌, ◌*◌, ◌<◌, ◌≤◌, List, length, OnErr, OnOk, Some};
 ghost use Rattle.std.specs.Io.KnownBytes.{Appends};
-ghost use Rattle.store_bytes.specs.Picture.{picture};
+ghost use Rattle.cow_format.specs.Picture.{picture};
 ghost use Rattle.cow_image.specs.Maps.{IsMapOf};
 ghost use Rattle.cow_image.specs.Sorted.{IsRisingBy, old_of};
 ghost use Rattle.cow_image.specs.Shown.{shown, IsFrontOf};

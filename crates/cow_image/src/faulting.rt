@@ -6,10 +6,10 @@ ghost use Rattle.cow_image.specs.declared.fault.Fault.{Fault as FaultOf};
 
 use crate::Fault;
 use crate::judging::{begins_before, lies_within};
+use cow_format::is_area_place;
 use sector::Pair;
 use std::alloc::{AllocError, Global};
 use std::collections::HashSet;
-use store_bytes::is_area_place;
 
 /// The faults of a store's pairs, slot by slot: all of them, or a front of them that has at least so many.
 pub fn faults(

@@ -2,12 +2,12 @@
 ghost use Rattle.std.specs.Prelude.{◌≡◌, ◌↔◌, ◌⊎◌, ℕ, ◌+◌, ◌*◌, ◌<◌, ◌≤◌, IsTrue, MatchBool, AllPairs};
 ghost use Rattle.std.specs.List.{All};
 ghost use Rattle.std.specs.List.Sorted.{IsPermutation};
-ghost use Rattle.store_bytes.specs.Pairs.{IsApart, IsInside};
+ghost use Rattle.cow_format.specs.Pairs.{IsApart, IsInside};
 ghost use Rattle.cow_image.specs.Sorted.{IsRisingBy, old_of};
 
 use crate::sorting::{sort_by_new, sort_by_old};
+use cow_format::is_area_place;
 use sector::{Chunk, Pair};
-use store_bytes::is_area_place;
 
 /// Judges pairs, for an origin and a store of so many sectors: whether each pair's chunks are there, and no chunk stands
 /// in two of them. It leaves pairs that are well formed in the order of their old chunks, and others in any.

@@ -4,8 +4,8 @@ ghost use Rattle.std.specs.List.{All};
 ghost use Rattle.cow_image.specs.Sorted.{IsRisingBy, old_of};
 ghost use Rattle.cow_image.specs.Usage.{past_new as past_of, allocated_by, metadata_by};
 
+use cow_format::is_area_place;
 use sector::Pair;
-use store_bytes::is_area_place;
 
 /// The map of a written store that a load accepts.
 #[derive(Drop)]

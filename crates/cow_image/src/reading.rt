@@ -1,6 +1,6 @@
 // The areas of a written store are read from an image, up to the first empty slot.
 ghost use Rattle.std.specs.Prelude.{◌≡◌, ℕ, ◌+◌, ◌*◌, ◌<◌, ◌≤◌, List, length, IfOk, OnOk, Some};
-ghost use Rattle.store_bytes.specs.Places.{chunk_at};
+ghost use Rattle.cow_format.specs.Places.{chunk_at};
 ghost use Rattle.cow_image.specs.Listed.{IsListedIn, EndsBelow};
 ghost use Rattle.cow_image.specs.Loaded.{IsLoaded};
 

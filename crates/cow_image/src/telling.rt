@@ -2,7 +2,7 @@
 ghost use Rattle.std.specs.Prelude.{◌≡◌, ℕ, ◌+◌, ◌*◌, ◌/◌, ◌<◌, ◌≤◌, List, ◌∷◌, length, IfOk, OnOk, Ok, Some};
 ghost use Rattle.sector.specs.Bytes.{sector_at};
 ghost use Rattle.cow_header.specs.HeaderText.{found_in};
-ghost use Rattle.store_bytes.specs.Pairs.{pairs_of};
+ghost use Rattle.cow_format.specs.Pairs.{pairs_of};
 ghost use Rattle.cow_image.specs.Judged.{IsFirstFault};
 ghost use Rattle.cow_image.specs.Listed.{IsListedBy};
 ghost use Rattle.cow_image.specs.Maps.{IsToldOf};

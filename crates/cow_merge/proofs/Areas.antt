@@ -6,9 +6,9 @@ use Rattle.std.proofs.lemmas.List.{ext_get_or, length-replicate}
 use Rattle.sector.specs.Bytes.{sector_at, with_sectors}
 use Rattle.sector.specs.declared.pair.Pair.{Pair}
 use Rattle.sector.proofs.Sectors.{byte_read, sector_after_write, sectors_at-with_inside}
-use Rattle.store_bytes.specs.Slots.{pair_in}
-use Rattle.store_bytes.specs.Places.{area_place, chunk_at, slot}
-use Rattle.store_bytes.proofs.Slots.{slot-at, IsListed-of}
+use Rattle.cow_format.specs.Slots.{pair_in}
+use Rattle.cow_format.specs.Places.{area_place, chunk_at, slot}
+use Rattle.cow_format.proofs.Slots.{slot-at, IsListed-of}
 use Rattle.cow_merge.specs.Merges.{IsInArea}
 use Rattle.cow_merge.specs.Holding.{Begin, pairs, IsBegin, OriginMay, StoreMay, Leaves, Rolls, Copies, IsZero, IsGone, Clears}
 use Rattle.cow_merge.proofs.Sectors.{by_sectors, zero_byte, area_from}

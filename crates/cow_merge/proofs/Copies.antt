@@ -7,10 +7,10 @@ use Rattle.std.proofs.lemmas.List.{ext_get_or, length-take-le}
 use Rattle.sector.specs.Bytes.{sector_at, sectors_at, with_sectors}
 use Rattle.sector.specs.declared.pair.Pair.{Pair}
 use Rattle.sector.proofs.Sectors.{byte_read, sector_after_write, sectors_at-with_inside}
-use Rattle.store_bytes.specs.Picture.{place_of}
-use Rattle.store_bytes.specs.Places.{is_area_place}
+use Rattle.cow_format.specs.Picture.{place_of}
+use Rattle.cow_format.specs.Places.{is_area_place}
 use Rattle.cow_image.proofs.Places.{place_first}
-use Rattle.stop_laws.proofs.Open.{sector_copied}
+use Rattle.crash_laws.proofs.Open.{sector_copied}
 use Rattle.cow_merge.specs.Holding.{Begin, pairs, array, IsBegin, OriginMay, StoreMay, Leaves, Rolls, IsPairOf, AreInRow, IsBack, Copies}
 use Rattle.cow_merge.proofs.Sectors.{not_in_area}
 

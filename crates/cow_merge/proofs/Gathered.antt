@@ -11,8 +11,8 @@ use Rattle.std.proofs.lemmas.List.Sorted.{Contains-permutation}
 use Rattle.std.proofs.Math.Nat.{mul-le-mul_right}
 use Rattle.std.proofs.Math.Seq.{take-append-add}
 use Rattle.sector.specs.declared.pair.Pair.{Pair}
-use Rattle.store_bytes.specs.Slots.{pair_in}
-use Rattle.store_bytes.specs.Places.{area_place, chunk_at}
+use Rattle.cow_format.specs.Slots.{pair_in}
+use Rattle.cow_format.specs.Places.{area_place, chunk_at}
 use Rattle.cow_image.specs.Runs.{IsRow}
 use Rattle.cow_merge.specs.Holding.{Begin, pairs, Rolls, IsPairOf, AreInRow, AreGathered, IsSafe, IsBack, AreBack}
 use Rattle.cow_merge.proofs.Areas.{slot_pair, slot_last}

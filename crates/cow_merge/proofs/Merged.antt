@@ -7,16 +7,16 @@ use Rattle.std.proofs.Math.Nat.{div-mul-le_self}
 use Rattle.std.proofs.lemmas.List.{take_all, get_or-take, get_or_default, length-take-le}
 use Rattle.sector.specs.Bytes.{sector_at}
 use Rattle.sector.specs.declared.pair.Pair.{Pair}
-use Rattle.store_bytes.specs.Slots.{pair_in}
-use Rattle.store_bytes.specs.Places.{area_place}
-use Rattle.store_bytes.specs.Pairs.{pairs_of}
-use Rattle.store_bytes.specs.Picture.{place_of}
-use Rattle.store_bytes.proofs.Pictures.{place_found, length-picture}
-use Rattle.store_bytes.proofs.Slots.{pairs-are}
+use Rattle.cow_format.specs.Slots.{pair_in}
+use Rattle.cow_format.specs.Places.{area_place}
+use Rattle.cow_format.specs.Pairs.{pairs_of}
+use Rattle.cow_format.specs.Picture.{place_of}
+use Rattle.cow_format.proofs.Pictures.{place_found, length-picture}
+use Rattle.cow_format.proofs.Slots.{pairs-are}
 use Rattle.cow_image.proofs.Places.{place_first}
-use Rattle.stop_laws.specs.May.{sector_of, number_of}
-use Rattle.stop_laws.proofs.May.{slot_there}
-use Rattle.stop_laws.proofs.Open.{sector_plain}
+use Rattle.crash_laws.specs.May.{sector_of, number_of}
+use Rattle.crash_laws.proofs.May.{slot_there}
+use Rattle.crash_laws.proofs.Open.{sector_plain}
 use Rattle.image.specs.Stops.{AreLeft}
 use Rattle.cow_merge.specs.Merges.{IsMerging, IsMerged}
 use Rattle.cow_merge.specs.Holding.{Begin, pairs, array, IsBegin, OriginMay, StoreMay, Rolls, AreBack, Settles, Ends}

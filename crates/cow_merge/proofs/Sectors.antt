@@ -10,12 +10,12 @@ use Rattle.sector.specs.Bytes.{sector_at}
 use Rattle.sector.specs.Number.{number_at}
 use Rattle.sector.specs.declared.pair.Pair.{Pair}
 use Rattle.sector.proofs.Sectors.{byte_read}
-use Rattle.store_bytes.specs.Slots.{pair_in}
-use Rattle.store_bytes.specs.Places.{area_place, is_area_place}
-use Rattle.store_bytes.specs.Pairs.{IsInside}
-use Rattle.store_bytes.specs.Picture.{place_of}
-use Rattle.store_bytes.proofs.AreaPlaces.{place_is}
-use Rattle.store_bytes.proofs.Pictures.{place_found}
+use Rattle.cow_format.specs.Slots.{pair_in}
+use Rattle.cow_format.specs.Places.{area_place, is_area_place}
+use Rattle.cow_format.specs.Pairs.{IsInside}
+use Rattle.cow_format.specs.Picture.{place_of}
+use Rattle.cow_format.proofs.AreaPlaces.{place_is}
+use Rattle.cow_format.proofs.Pictures.{place_found}
 use Rattle.cow_merge.specs.Merges.{IsInArea}
 
 -- lists that have the same sectors are one

@@ -7,19 +7,19 @@ use Rattle.std.proofs.Math.Nat.{mul-le-mul_right, div-mul-le_self}
 use Rattle.std.proofs.lemmas.List.{take_all}
 use Rattle.sector.specs.Bytes.{sector_at}
 use Rattle.sector.specs.declared.pair.Pair.{Pair}
-use Rattle.store_bytes.specs.Slots.{pair_in}
-use Rattle.store_bytes.specs.Places.{area_place, slot}
-use Rattle.store_bytes.specs.Pairs.{pairs_of}
-use Rattle.store_bytes.specs.Picture.{place_of, picture}
-use Rattle.store_bytes.proofs.Slots.{IsListed-of}
-use Rattle.store_bytes.proofs.Pictures.{length-picture}
+use Rattle.cow_format.specs.Slots.{pair_in}
+use Rattle.cow_format.specs.Places.{area_place, slot}
+use Rattle.cow_format.specs.Pairs.{pairs_of}
+use Rattle.cow_format.specs.Picture.{place_of, picture}
+use Rattle.cow_format.proofs.Slots.{IsListed-of}
+use Rattle.cow_format.proofs.Pictures.{length-picture}
 use Rattle.cow_header.specs.HeaderText.{found_in}
 use Rattle.cow_header.specs.declared.found.Found.TheVariants.{Header}
-use Rattle.stop_laws.specs.May.{sector_of, number_of}
-use Rattle.stop_laws.proofs.Between.{IsBetween, pairs_between}
-use Rattle.stop_laws.proofs.Loads.{formed_first}
-use Rattle.stop_laws.proofs.May.{slot_there}
-use Rattle.stop_laws.proofs.Open.{sector_plain, sector_copied}
+use Rattle.crash_laws.specs.May.{sector_of, number_of}
+use Rattle.crash_laws.proofs.Between.{IsBetween, pairs_between}
+use Rattle.crash_laws.proofs.Loads.{formed_first}
+use Rattle.crash_laws.proofs.May.{slot_there}
+use Rattle.crash_laws.proofs.Open.{sector_plain, sector_copied}
 use Rattle.image.specs.Stops.{AreLeft}
 use Rattle.cow_merge.specs.Merges.{IsInArea, StillShows}
 use Rattle.cow_merge.specs.Holding.{Begin, pairs, array, IsBegin, OriginMay, StoreMay, Leaves}

@@ -3,9 +3,9 @@ use Rattle.std.specs.Prelude.{◌≡◌, ◌⊎◌, ℕ, ◌+◌, ◌*◌, ◌/�
 use Rattle.std.specs.List.{Contains}
 use Rattle.sector.specs.Bytes.{sector_at}
 use Rattle.sector.specs.declared.pair.Pair.{Pair}
-use Rattle.store_bytes.specs.Places.{area_place}
-use Rattle.store_bytes.specs.Pairs.{pairs_of, AreWellFormed}
-use Rattle.store_bytes.specs.Picture.{picture}
+use Rattle.cow_format.specs.Places.{area_place}
+use Rattle.cow_format.specs.Pairs.{pairs_of, AreWellFormed}
+use Rattle.cow_format.specs.Picture.{picture}
 use Rattle.cow_header.specs.HeaderText.{found_in}
 use Rattle.cow_header.specs.declared.found.Found.TheVariants.{Header}
 use Rattle.image.specs.Stops.{AreLeft}

@@ -3,10 +3,10 @@
 -- files are an origin's under 0 and a store's under 1. The format is that of dm-snap-persistent.c; the rest is this project's.
 use Rattle.std.specs.Prelude.{◌≡◌, ◌≢◌, ◌⊎◌, ℕ, ◌+◌, ◌*◌, ◌/◌, ◌<◌, ◌≤◌, List, [], length, replicate, take, None}
 use Rattle.sector.specs.Bytes.{sector_at}
-use Rattle.store_bytes.specs.Places.{area_place}
-use Rattle.store_bytes.specs.Pairs.{pairs_of}
-use Rattle.store_bytes.specs.Picture.{place_of, picture}
-use Rattle.stop_laws.specs.Again.{LoadsAgain}
+use Rattle.cow_format.specs.Places.{area_place}
+use Rattle.cow_format.specs.Pairs.{pairs_of}
+use Rattle.cow_format.specs.Picture.{place_of, picture}
+use Rattle.crash_laws.specs.Again.{LoadsAgain}
 
 -- a sector of one of the areas from one on
 pub record IsInArea (chunk from s : ℕ) : Type 0 where

@@ -2,8 +2,8 @@
 ghost use Rattle.std.specs.Prelude.{◌≡◌, ◌≢◌, ℕ, ◌+◌, ◌*◌, ◌-◌, ◌/◌, ◌<◌, ◌≤◌, List, length, take, slice_index_or, IfOk, OnOk};
 ghost use Rattle.std.specs.List.{All};
 ghost use Rattle.sector.specs.declared.pair.Pair.{Pair as PairOf};
-ghost use Rattle.store_bytes.specs.Places.{area_place, chunk_at};
-ghost use Rattle.store_bytes.specs.Slots.{pair_in};
+ghost use Rattle.cow_format.specs.Places.{area_place, chunk_at};
+ghost use Rattle.cow_format.specs.Slots.{pair_in};
 ghost use Rattle.image.specs.Stops.{HasCause};
 ghost use Rattle.cow_merge.specs.Begun.{begun};
 ghost use Rattle.cow_merge.specs.Holding.{Rolls, Passes, Copies, IsPairOf, AreGathered, Begin, pairs};

@@ -4,14 +4,14 @@ use Rattle.std.proofs.Math.Seq.{take-append_seam}
 use Rattle.std.proofs.lemmas.List.FromFn.{length-map-range_with_len, get_or-map-range_with_len}
 use Rattle.std.specs.Option.{is_some}
 use Rattle.sector.specs.declared.pair.Pair.{Pair}
-use Rattle.store_bytes.specs.Picture.{place_of, byte_of, picture_at}
+use Rattle.cow_format.specs.Picture.{place_of, byte_of, picture_at}
 use Rattle.cow_image.specs.Shown.{shown}
 use Rattle.cow_image.specs.Fails.{ShownFails}
 use Rattle.cow_image.proofs.Exports.{shown_parts}
 use Rattle.cow_image.proofs.Fails.{shown_calm}
 use Rattle.cow_nbd.specs.Shows.{has_copy, TellsChanges, known_shown, known_at, arrays, FailsAt, FailsFresh, OrChanged, IsServedBy}
-use Rattle.nbd_server.proofs.Calm.{talk_calm}
-use Rattle.nbd_server.specs.Talk.{beginning}
+use Rattle.nbd_read_session.proofs.Calm.{talk_calm}
+use Rattle.nbd_read_session.specs.Talk.{beginning}
 
 -- a part of what is shown
 pub shown_part : (chunk : ℕ) (o b : List ℕ) (ps : List Pair) (at n end : ℕ) → at + n ≤ end → shown chunk o b ps at n ≡ take n (drop at (shown chunk o b ps 0 end))

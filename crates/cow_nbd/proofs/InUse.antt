@@ -1,9 +1,9 @@
 -- Bytes of a snapshot whose files are written.
 use Rattle.std.proofs.Common.{◌≡◌, ℕ, ◌+◌, ◌-◌, ◌*◌, ◌≤◌, List, length, take, drop, Option, None, Some, true, IfSome, refl, arith, ap, ◌∙◌, sym, subst}
-use Rattle.store_bytes.specs.Pairs.{pairs_of}
+use Rattle.cow_format.specs.Pairs.{pairs_of}
 use Rattle.cow_image.specs.Shown.{shown}
-use Rattle.live_snapshot.specs.Moments.{Files, IsSaving}
-use Rattle.nbd_server.specs.Blocks.{marked_for}
+use Rattle.read_beside_writer.specs.Moments.{Files, IsSaving}
+use Rattle.nbd_read_session.specs.Blocks.{marked_for}
 use Rattle.cow_nbd.specs.Live.{all_marked, known_live}
 use Rattle.cow_nbd.proofs.Arrays.{shown_part}
 use Rattle.cow_nbd.proofs.Marks.{marked_more, marked_none}

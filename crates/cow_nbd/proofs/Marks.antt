@@ -4,10 +4,10 @@ use Rattle.std.specs.Option.{is_some}
 use Rattle.std.proofs.Math.Nat.{div-add-mod', div-lt_iff_lt-mul, mod-lt}
 use Rattle.std.proofs.lemmas.Nat.{div-mul-add}
 use Rattle.sector.specs.declared.pair.Pair.{Pair}
-use Rattle.store_bytes.specs.Picture.{place_of}
+use Rattle.cow_format.specs.Picture.{place_of}
 use Rattle.cow_image.specs.Runs.{IsRun, place_after}
 use Rattle.cow_nbd.specs.Shows.{has_copy}
-use Rattle.nbd_server.specs.Blocks.{marked_for, same_kind}
+use Rattle.nbd_read_session.specs.Blocks.{marked_for, same_kind}
 
 same_self : (b : Bool) → same_kind b b ≡ true
 same_self true = refl

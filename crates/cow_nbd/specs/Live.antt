@@ -1,13 +1,13 @@
 -- To be believed: what a server of a snapshot whose files are written says to a client.
 use Rattle.std.specs.Prelude.{ℕ, ◌*◌, List, [], ◌∷◌, ◌++◌, codes, Option, Some, None, true, false}
 use Rattle.std.specs.Io.KnownBytes.{Appends}
-use Rattle.store_bytes.specs.Pairs.{pairs_of}
+use Rattle.cow_format.specs.Pairs.{pairs_of}
 use Rattle.cow_image.specs.Shown.{shown}
-use Rattle.live_snapshot.specs.Moments.{Files}
+use Rattle.read_beside_writer.specs.Moments.{Files}
 use Rattle.nbd_messages.specs.Replies.{greeting}
 use Rattle.nbd_options.specs.declared.export.Export.{Export}
-use Rattle.nbd_server.specs.Blocks.{Array}
-use Rattle.nbd_server.specs.Talk.{Talk, Turn, beginning}
+use Rattle.nbd_read_session.specs.Blocks.{Array}
+use Rattle.nbd_read_session.specs.Talk.{Talk, Turn, beginning}
 use Rattle.cow_nbd.specs.Shows.{IsExport}
 
 -- of these bytes any may have changed

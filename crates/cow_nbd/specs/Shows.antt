@@ -3,13 +3,13 @@ use Rattle.std.specs.Prelude.{◌≡◌, ℕ, zero, suc, ◌+◌, ◌*◌, ◌/�
 use Rattle.std.specs.Option.{is_some}
 use Rattle.std.specs.Io.KnownBytes.{Appends}
 use Rattle.sector.specs.declared.pair.Pair.{Pair}
-use Rattle.store_bytes.specs.Picture.{place_of}
+use Rattle.cow_format.specs.Picture.{place_of}
 use Rattle.cow_image.specs.Shown.{shown}
 use Rattle.cow_image.specs.Fails.{ShownFails, ReadFails}
 use Rattle.nbd_messages.specs.Replies.{greeting}
 use Rattle.nbd_options.specs.declared.export.Export.{Export}
-use Rattle.nbd_server.specs.Blocks.{Array}
-use Rattle.nbd_server.specs.Talk.{Talk, Turn, beginning}
+use Rattle.nbd_read_session.specs.Blocks.{Array}
+use Rattle.nbd_read_session.specs.Talk.{Talk, Turn, beginning}
 
 -- whether a byte lies in a chunk of which the store has a copy
 abbrev pub has_copy : ℕ → List Pair → ℕ → Bool

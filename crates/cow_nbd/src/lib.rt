@@ -1,5 +1,5 @@
 //! A snapshot and its origin, served to a client of the Network Block Device protocol, by the images of the origin and of the
-//! store. It stands on `cow_image` and `nbd_server`. It promises that all that is written is the protocol's answer to what
+//! store. It stands on `cow_image` and `nbd_read_session`. It promises that all that is written is the protocol's answer to what
 //! is read, that a read's data are what the snapshot, or the origin, shows there, and that no read gives bytes once a look has told
 //! that an image changed.
 #![tactic(auto)]

@@ -1,14 +1,14 @@
 // A snapshot is served while another program writes its files.
 ghost use Rattle.std.specs.Prelude.{◌≡◌, ℕ, ◌*◌, ◌≤◌, List, length, OnOk, Some};
-ghost use Rattle.store_bytes.specs.Pairs.{pairs_of};
+ghost use Rattle.cow_format.specs.Pairs.{pairs_of};
 ghost use Rattle.cow_image.specs.Shown.{shown};
-ghost use Rattle.live_snapshot.specs.Moments.{Files, IsSaving};
+ghost use Rattle.read_beside_writer.specs.Moments.{Files, IsSaving};
 ghost use Rattle.cow_nbd.specs.Live.{known_live, IsServedLive};
 
-use live_snapshot::{LiveSnapshot, Lost, MovingFiles};
 use nbd_messages::READ_FLAGS;
 use nbd_options::Export;
-use nbd_server::{Fault, Marked, Served, Stopped, serve};
+use nbd_read_session::{Fault, Marked, Served, Stopped, serve};
+use read_beside_writer::{LiveSnapshot, Lost, MovingFiles};
 use std::alloc::Global;
 use std::io::{Read, Write};
 

@@ -3,10 +3,10 @@ ghost use Rattle.std.specs.Prelude.{◌≡◌, ◌+◌, ◌^◌, ◌<◌, ◌≤
 ghost use Rattle.cow_image.specs.Sorted.{IsRisingBy, old_of};
 ghost use Rattle.cow_nbd.specs.Shows.{has_copy};
 ghost use Rattle.std.specs.Option.{is_some};
-ghost use Rattle.nbd_server.specs.Blocks.{marked_for, same_kind};
+ghost use Rattle.nbd_read_session.specs.Blocks.{marked_for, same_kind};
 
 use cow_image::{Run, run_at};
-use nbd_server::Marked;
+use nbd_read_session::Marked;
 use sector::Pair;
 
 /// How many copies in a row are looked for at once.

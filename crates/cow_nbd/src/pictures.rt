@@ -7,7 +7,7 @@ ghost use Rattle.cow_nbd.specs.Shows.{known_at, known_shown, FailsAt};
 use crate::marking::marked;
 use cow_image::show_range;
 use image::Image;
-use nbd_server::{Fault, Marked, Served};
+use nbd_read_session::{Fault, Marked, Served};
 use sector::Pair;
 use std::io;
 

@@ -2,7 +2,7 @@
 ghost use Rattle.std.specs.Prelude.{◌≡◌, ℕ, ◌*◌, ◌≤◌, List, length, OnOk, Some};
 ghost use Rattle.cow_image.specs.Maps.{IsMapOf};
 ghost use Rattle.cow_image.specs.Shown.{shown};
-ghost use Rattle.store_bytes.specs.Picture.{picture};
+ghost use Rattle.cow_format.specs.Picture.{picture};
 ghost use Rattle.std.specs.Prelude.{Bool, false};
 ghost use Rattle.cow_nbd.specs.Shows.{IsServedBy, has_copy, FailsAt, FailsFresh, OrChanged};
 
@@ -12,7 +12,7 @@ use cow_image::CowMap;
 use image::{Image, MemImage};
 use nbd_messages::READ_FLAGS;
 use nbd_options::Export;
-use nbd_server::{Stopped, serve};
+use nbd_read_session::{Stopped, serve};
 use std::alloc::Global;
 use std::io::{Read, Write};
 

@@ -1,9 +1,9 @@
 // Whether the images that are served are still as they were.
 ghost use Rattle.std.specs.Prelude.{◌≡◌, ◌⊎◌, ℕ, ◌+◌, ◌^◌, ◌<◌, length, take, drop, Bool, false, IfOk, IfSome, IsTrue, OnOk, Err};
-ghost use Rattle.nbd_server.specs.Blocks.{marked_for};
-ghost use Rattle.nbd_server.specs.declared.served.Fault.{Fault as FaultOf};
+ghost use Rattle.nbd_read_session.specs.Blocks.{marked_for};
+ghost use Rattle.nbd_read_session.specs.declared.served.Fault.{Fault as FaultOf};
 
-use nbd_server::{Fault, Marked, Served};
+use nbd_read_session::{Fault, Marked, Served};
 
 /// What tells whether images are still as they were when their serving began.
 pub trait Watch {

@@ -6,10 +6,10 @@ use Rattle.std.specs.List.Sorted.{IsPermutation}
 use Rattle.std.proofs.lemmas.Bool.{cases_lt, cases_eq, eq-eqb, ne_eqb, true≢false}
 use Rattle.std.proofs.lemmas.List.{get_or_append_left, get_or_push, length_push, get_or-drop, length-drop}
 use Rattle.sector.specs.declared.pair.Pair.{Pair}
-use Rattle.store_bytes.specs.Picture.{byte_of, picture_at}
+use Rattle.cow_format.specs.Picture.{byte_of, picture_at}
 use Rattle.cow_image.specs.declared.fault.Fault.{Fault}
 use Rattle.cow_image.specs.declared.fault.Fault.TheVariants.{PastOrigin, OutsideStore, AtArea, OldTwice, NewTwice}
-use Rattle.store_bytes.specs.Places.{is_area_place}
+use Rattle.cow_format.specs.Places.{is_area_place}
 use Rattle.cow_image.specs.Judged.{stands_in}
 use Rattle.cow_image.specs.Sorted.{old_of, new_of}
 use Rattle.cow_image.proofs.Sorts.{Differ}

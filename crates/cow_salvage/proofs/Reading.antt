@@ -11,7 +11,7 @@ use Rattle.std.proofs.lemmas.List.FromFn.{length-map-range_with_len}
 use Rattle.std.proofs.Math.Seq.{drop-append_seam, take-append_seam}
 use Rattle.sector.specs.Bytes.{sector_at}
 use Rattle.sector.specs.declared.pair.Pair.{Pair}
-use Rattle.store_bytes.specs.Picture.{picture_at}
+use Rattle.cow_format.specs.Picture.{picture_at}
 use Rattle.cow_image.specs.Runs.{IsRun}
 use Rattle.cow_image.specs.Shown.{shown}
 use Rattle.cow_image.proofs.Exports.{shown_parts}

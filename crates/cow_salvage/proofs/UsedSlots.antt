@@ -1,9 +1,9 @@
 -- Slots that are taken one by one.
 use Rattle.std.proofs.Common.{◌≡◌, ℕ, suc, ◌+◌, ◌*◌, ◌<◌, ◌≤◌, List, ◌++◌, arith, ap, ◌∙◌, sym, subst}
 use Rattle.sector.specs.declared.pair.Pair.{Pair}
-use Rattle.store_bytes.specs.Slots.{pair_in}
-use Rattle.store_bytes.specs.Places.{area_place, chunk_at, slot}
-use Rattle.store_bytes.proofs.Slots.{slot-at}
+use Rattle.cow_format.specs.Slots.{pair_in}
+use Rattle.cow_format.specs.Places.{area_place, chunk_at, slot}
+use Rattle.cow_format.proofs.Slots.{slot-at}
 use Rattle.cow_image.proofs.Loads.{areas_rise}
 use Rattle.cow_salvage.specs.declared.using.Slot.{Slot}
 use Rattle.cow_salvage.specs.Used.{AreWhole, AreUsedIn, used_below, used_if}

@@ -1,7 +1,7 @@
 -- The slots of a store that are not empty, of all areas that lie wholly inside it.
 use Rattle.std.specs.Prelude.{◌≡◌, ◌==◌, ℕ, zero, suc, ◌+◌, ◌*◌, ◌<◌, ◌≤◌, List, [], ◌∷◌, ◌++◌, if◌then◌else◌}
 use Rattle.sector.specs.declared.pair.Pair.{Pair}
-use Rattle.store_bytes.specs.Places.{area_place, slot}
+use Rattle.cow_format.specs.Places.{area_place, slot}
 use Rattle.cow_salvage.specs.declared.using.Slot.{Slot}
 
 -- a slot with this pair, where it is not empty

@@ -1,6 +1,6 @@
 // A snapshot is compared with its origin.
 ghost use Rattle.std.specs.Prelude.{◌≡◌, ℕ, ◌+◌, ◌*◌, ◌<◌, ◌≤◌, List, length, IfOk, OnOk, Some};
-ghost use Rattle.store_bytes.specs.Picture.{picture};
+ghost use Rattle.cow_format.specs.Picture.{picture};
 ghost use Rattle.cow_image.specs.Maps.{IsMapOf};
 ghost use Rattle.cow_image.specs.Sorted.{IsRisingBy, old_of};
 ghost use Rattle.cow_image.specs.Shown.{shown};

@@ -8,11 +8,11 @@ ghost use Rattle.cow_image.specs.Sorted.{old_of, new_of};
 ghost use Rattle.cow_salvage.specs.Kept.{sifted, sifted_as, sifted_by, why_skipped};
 
 use crate::Slot;
+use cow_format::is_area_place;
 use cow_image::{Fault, begins_before, lies_within};
 use sector::Pair;
 use std::alloc::{AllocError, Global};
 use std::collections::HashSet;
-use store_bytes::is_area_place;
 
 /// The pairs that are kept, in slot order, and why the others are not.
 #[derive(Drop)]

@@ -1,7 +1,7 @@
 // The slots of a store that are not empty are read from an image, whatever they hold.
 ghost use Rattle.std.specs.Prelude.{◌≡◌, ℕ, ◌+◌, ◌*◌, ◌<◌, ◌≤◌, List, ◌++◌, IfOk, OnOk, Some};
 ghost use Rattle.sector.specs.declared.pair.Pair.{Pair as PairOf};
-ghost use Rattle.store_bytes.specs.Slots.{pair_in};
+ghost use Rattle.cow_format.specs.Slots.{pair_in};
 ghost use Rattle.cow_salvage.specs.Used.{AreUsedIn, used_below, used_if};
 
 use cow_image::{Failure, MAX_IMAGE, read_area};

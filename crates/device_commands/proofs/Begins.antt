@@ -2,22 +2,22 @@
 use Rattle.std.proofs.Common.{◌≡◌, ℕ, ◌<◌, true, false, List, length, get_or, refl, sym, ap, ◌∙◌, subst}
 use Rattle.std.specs.Prelude.{Result, Ok, Err, IfErr, OnOk}
 use Rattle.sector.specs.declared.refusal.Refusal.{Refusal}
-use Rattle.big_steps.specs.Refusals.{is_starved}
-use Rattle.command_rules.specs.declared.place.Role.TheVariants.{Snapshot}
-use Rattle.command_rules.specs.declared.place.Place.TheVariants.{In}
-use Rattle.command_rules.specs.State.{Volume, Table}
-use Rattle.command_rules.specs.Places.{volume_at}
-use Rattle.command_rules.specs.Changes.{Changes, Enters}
-use Rattle.command_rules.specs.Messages.{put_volume}
-use Rattle.command_rules.specs.Merging.{begun, begun_at, resumed}
-use Rattle.command_rules.specs.Naming.{AreNamed}
-use Rattle.command_rules.specs.Sectors.{IsInVolume}
-use Rattle.command_rules.specs.Sound.{is_sound, is_sound_volume}
-use Rattle.command_rules.proofs.AtPlace.{changes_at, enters_at, volume_here}
-use Rattle.command_rules.proofs.Keeping.{names_there}
-use Rattle.command_rules.proofs.MergingRules.{resumed_as}
-use Rattle.command_rules.proofs.NamedFrames.{begun_named, put_volume_named}
-use Rattle.command_rules.proofs.SoundFrames.{of_both, put_volume_sound, volume_quiet, volume_sound, volume_whole}
+use Rattle.whole_commands.specs.Refusals.{is_starved}
+use Rattle.command_semantics.specs.declared.place.Role.TheVariants.{Snapshot}
+use Rattle.command_semantics.specs.declared.place.Place.TheVariants.{In}
+use Rattle.command_semantics.specs.State.{Volume, Table}
+use Rattle.command_semantics.specs.Places.{volume_at}
+use Rattle.command_semantics.specs.Changes.{Changes, Enters}
+use Rattle.command_semantics.specs.Messages.{put_volume}
+use Rattle.command_semantics.specs.Merging.{begun, begun_at, resumed}
+use Rattle.command_semantics.specs.Naming.{AreNamed}
+use Rattle.command_semantics.specs.Sectors.{IsInVolume}
+use Rattle.command_semantics.specs.Sound.{is_sound, is_sound_volume}
+use Rattle.command_semantics.proofs.AtPlace.{changes_at, enters_at, volume_here}
+use Rattle.command_semantics.proofs.Keeping.{names_there}
+use Rattle.command_semantics.proofs.MergingRules.{resumed_as}
+use Rattle.command_semantics.proofs.NamedFrames.{begun_named, put_volume_named}
+use Rattle.command_semantics.proofs.SoundFrames.{of_both, put_volume_sound, volume_quiet, volume_sound, volume_whole}
 use Rattle.device_list.specs.Names.{IsNamedBegun}
 use Rattle.device_commands.specs.Merging.{IsBegunIn, resumed_at}
 use Rattle.device_commands.proofs.InVolume.{changed_in, idle_in}

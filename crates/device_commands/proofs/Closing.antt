@@ -7,12 +7,12 @@ use Rattle.sector.specs.declared.refusal.Refusal.{Refusal}
 use Rattle.sector.specs.declared.refusal.Refusal.TheVariants.{Busy, NotQuiet}
 use Rattle.device.specs.Layers.{is_loud}
 use Rattle.words.specs.Given.{◌>>=◌}
-use Rattle.command_rules.specs.State.{Stacked, Names, Merging, Volume, Table}
-use Rattle.command_rules.specs.Changes.{Changes}
-use Rattle.command_rules.specs.Origins.{closed, stack_under, still}
-use Rattle.command_rules.specs.Sound.{is_sound}
-use Rattle.command_rules.proofs.AtPlace.{volume_here}
-use Rattle.command_rules.proofs.SoundFrames.{left_over_sound, volume_sound}
+use Rattle.command_semantics.specs.State.{Stacked, Names, Merging, Volume, Table}
+use Rattle.command_semantics.specs.Changes.{Changes}
+use Rattle.command_semantics.specs.Origins.{closed, stack_under, still}
+use Rattle.command_semantics.specs.Sound.{is_sound}
+use Rattle.command_semantics.proofs.AtPlace.{volume_here}
+use Rattle.command_semantics.proofs.SoundFrames.{left_over_sound, volume_sound}
 use Rattle.device_commands.proofs.Places.{restored}
 
 without : (snaps : List Names) (merging : Option Merging) (rule : Result Table Refusal) → snaps ≡ [] → merging ≡ None → (if nat_lt 0 (length snaps) || is_some merging then Err Busy else rule) ≡ rule

@@ -2,13 +2,13 @@
 use Rattle.std.proofs.Common.{◌≡◌, ℕ, ◌<◌, true, List, length, get_or}
 use Rattle.std.specs.Prelude.{Result, IfErr, IfOk}
 use Rattle.sector.specs.declared.refusal.Refusal.{Refusal}
-use Rattle.command_rules.specs.declared.place.Place.TheVariants.{In}
-use Rattle.command_rules.specs.State.{Volume, Table}
-use Rattle.command_rules.specs.Places.{volume_at}
-use Rattle.command_rules.specs.Sectors.{asked_of}
-use Rattle.command_rules.specs.Starting.{asked_at}
-use Rattle.command_rules.specs.declared.place.Role.{Role}
-use Rattle.command_rules.proofs.AtPlace.{volume_here}
+use Rattle.command_semantics.specs.declared.place.Place.TheVariants.{In}
+use Rattle.command_semantics.specs.State.{Volume, Table}
+use Rattle.command_semantics.specs.Places.{volume_at}
+use Rattle.command_semantics.specs.Sectors.{asked_of}
+use Rattle.command_semantics.specs.Starting.{asked_at}
+use Rattle.command_semantics.specs.declared.place.Role.{Role}
+use Rattle.command_semantics.proofs.AtPlace.{volume_here}
 use Rattle.device_list.specs.Flights.{IsDenied}
 use Rattle.device_list.specs.Status.{IsStatusOf}
 use Rattle.device_commands.specs.Ruled.{is_quiet_in}

@@ -4,12 +4,12 @@ use Rattle.std.specs.Prelude.{Result, Ok, Err, IfErr}
 use Rattle.std.proofs.lemmas.List.{get_or-set_same, length-set}
 use Rattle.sector.specs.declared.refusal.Refusal.{Refusal}
 use Rattle.sector.specs.declared.refusal.Refusal.TheVariants.{Busy, JournalFull, NotQuiet}
-use Rattle.command_rules.specs.declared.place.Role.{Role}
-use Rattle.command_rules.specs.declared.place.Place.TheVariants.{In}
-use Rattle.command_rules.specs.Messages.{put_volume}
-use Rattle.command_rules.specs.Places.{found, place_of, volume_at}
-use Rattle.command_rules.specs.State.{Stacked, Table, Volume}
-use Rattle.command_rules.proofs.AtPlace.{volume_here}
+use Rattle.command_semantics.specs.declared.place.Role.{Role}
+use Rattle.command_semantics.specs.declared.place.Place.TheVariants.{In}
+use Rattle.command_semantics.specs.Messages.{put_volume}
+use Rattle.command_semantics.specs.Places.{found, place_of, volume_at}
+use Rattle.command_semantics.specs.State.{Stacked, Table, Volume}
+use Rattle.command_semantics.proofs.AtPlace.{volume_here}
 use Rattle.device_list.specs.Asked.{has_asked_much}
 use Rattle.device_commands.specs.Asked.{has_asked_much_for, has_asked_much_in}
 

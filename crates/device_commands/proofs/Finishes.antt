@@ -4,16 +4,16 @@ use Rattle.std.specs.Prelude.{Result, Ok, Err}
 use Rattle.sector.specs.declared.refusal.Refusal.{Refusal}
 use Rattle.sector.specs.declared.refusal.Refusal.TheVariants.{JournalFull}
 use Rattle.device.specs.Layers.{is_loud}
-use Rattle.command_rules.specs.State.{Stacked, Volume, Table}
-use Rattle.command_rules.specs.Places.{volume_at}
-use Rattle.command_rules.specs.Changes.{Enters}
-use Rattle.command_rules.specs.Merging.{finished}
-use Rattle.command_rules.specs.Naming.{AreNamed}
-use Rattle.command_rules.specs.Sound.{is_sound}
-use Rattle.command_rules.proofs.AtPlace.{put_back, volume_here}
-use Rattle.command_rules.proofs.NamedFrames.{finished_named}
-use Rattle.big_steps.proofs.Starved.{other_full}
-use Rattle.command_rules.proofs.SoundFrames.{given_by_sound, of_both, volume_sound}
+use Rattle.command_semantics.specs.State.{Stacked, Volume, Table}
+use Rattle.command_semantics.specs.Places.{volume_at}
+use Rattle.command_semantics.specs.Changes.{Enters}
+use Rattle.command_semantics.specs.Merging.{finished}
+use Rattle.command_semantics.specs.Naming.{AreNamed}
+use Rattle.command_semantics.specs.Sound.{is_sound}
+use Rattle.command_semantics.proofs.AtPlace.{put_back, volume_here}
+use Rattle.command_semantics.proofs.NamedFrames.{finished_named}
+use Rattle.whole_commands.proofs.Starved.{other_full}
+use Rattle.command_semantics.proofs.SoundFrames.{given_by_sound, of_both, volume_sound}
 use Rattle.device_list.specs.Flights.{IsUnfinished}
 use Rattle.device_list.specs.Names.{IsNamedLess}
 use Rattle.device_commands.specs.Merging.{IsFinishedIn, IsUnfinishedIn, finished_at}

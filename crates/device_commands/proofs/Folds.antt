@@ -3,9 +3,9 @@ use Rattle.std.proofs.Common.{◌≡◌, ℕ, get_or, sym, ap}
 use Rattle.std.specs.Prelude.{Result, Ok, Err, IfErr}
 use Rattle.sector.specs.declared.refusal.Refusal.{Refusal}
 use Rattle.sector.specs.declared.refusal.Refusal.TheVariants.{NoMemory}
-use Rattle.command_rules.specs.State.{Volume, Table}
-use Rattle.command_rules.specs.Changes.{Changes}
-use Rattle.command_rules.specs.Messages.{put_volume}
+use Rattle.command_semantics.specs.State.{Volume, Table}
+use Rattle.command_semantics.specs.Changes.{Changes}
+use Rattle.command_semantics.specs.Messages.{put_volume}
 use Rattle.device_commands.proofs.InVolume.{idle_in}
 
 pub folds : (r : Result (Unit {0}) Refusal) (v : ℕ) (table : Table) (old new : Volume) → old ≡ get_or table.volumes v old → new ≡ old → IfErr r (λ e. e ≡ NoMemory) → Changes r table (put_volume v new table) (Ok table)

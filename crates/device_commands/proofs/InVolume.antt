@@ -4,18 +4,18 @@ use Rattle.std.specs.Prelude.{◌&&◌, Bool, Result, Ok, Err, IfErr, IfOk, OnEr
 use Rattle.std.proofs.lemmas.List.{get_or-set_same, length-set}
 use Rattle.sector.specs.declared.refusal.Refusal.{Refusal}
 use Rattle.words.specs.Given.{Gives}
-use Rattle.command_rules.specs.declared.place.Role.{Role}
-use Rattle.command_rules.specs.declared.place.Place.TheVariants.{In}
-use Rattle.command_rules.specs.State.{Volume, Table}
-use Rattle.command_rules.specs.Places.{place_of, found, volume_at}
-use Rattle.command_rules.specs.Sound.{is_sound, is_sound_volume}
-use Rattle.command_rules.proofs.SoundFrames.{put_volume_sound, volume_quiet, volume_whole}
-use Rattle.command_rules.specs.Raw.{whole, in_use, load, loaded_at}
-use Rattle.command_rules.specs.Changes.{Did, Serves}
-use Rattle.command_rules.specs.Messages.{put_volume}
-use Rattle.command_rules.specs.Sectors.{Asked, asked_of, in_volume, IsInVolume}
-use Rattle.command_rules.specs.Starting.{asked_at}
-use Rattle.command_rules.specs.Status.{status_in, status_at}
+use Rattle.command_semantics.specs.declared.place.Role.{Role}
+use Rattle.command_semantics.specs.declared.place.Place.TheVariants.{In}
+use Rattle.command_semantics.specs.State.{Volume, Table}
+use Rattle.command_semantics.specs.Places.{place_of, found, volume_at}
+use Rattle.command_semantics.specs.Sound.{is_sound, is_sound_volume}
+use Rattle.command_semantics.proofs.SoundFrames.{put_volume_sound, volume_quiet, volume_whole}
+use Rattle.command_semantics.specs.Raw.{whole, in_use, load, loaded_at}
+use Rattle.command_semantics.specs.Changes.{Did, Serves}
+use Rattle.command_semantics.specs.Messages.{put_volume}
+use Rattle.command_semantics.specs.Sectors.{Asked, asked_of, in_volume, IsInVolume}
+use Rattle.command_semantics.specs.Starting.{asked_at}
+use Rattle.command_semantics.specs.Status.{status_in, status_at}
 use Rattle.plain_machine.specs.declared.event.Event.{Event as Step}
 use Rattle.plain_machine.specs.declared.event.Outcome.{Outcome}
 use Rattle.plain_machine.specs.declared.event.NotDue.{NotDue}
@@ -23,7 +23,7 @@ use Rattle.device_list.specs.Flights.{IsNotDue, IsStepped}
 use Rattle.device_commands.specs.Flights.{IsNotDueIn}
 use Rattle.device_commands.specs.Ruled.{is_quiet_in, rests_at}
 use Rattle.device_commands.specs.Status.{IsStatusIn}
-use Rattle.command_rules.proofs.AtPlace.{put_back, volume_here}
+use Rattle.command_semantics.proofs.AtPlace.{put_back, volume_here}
 
 -- where memory or room ran out: nothing changed, or this holds of the volume
 abbrev pub Starved : (Volume → Volume → Type 0) → ℕ → Table → Table → Type 0

@@ -4,18 +4,18 @@ use Rattle.std.specs.Prelude.{Result, Ok, Err}
 use Rattle.sector.specs.declared.refusal.Refusal.{Refusal}
 use Rattle.sector.specs.declared.refusal.Refusal.TheVariants.{JournalFull}
 use Rattle.device.specs.Layers.{is_loud}
-use Rattle.command_rules.specs.State.{Stacked, Volume, Table}
-use Rattle.big_steps.specs.Attaching.{given_back}
-use Rattle.command_rules.specs.Changes.{Enters}
-use Rattle.command_rules.specs.Messages.{snap_at}
-use Rattle.command_rules.specs.Origins.{still}
-use Rattle.command_rules.specs.Raw.{names_at}
-use Rattle.command_rules.specs.Snapshots.{stack_of, without_snapshot, parted, left_by}
-use Rattle.command_rules.specs.Sound.{is_sound}
-use Rattle.command_rules.proofs.AtPlace.{put_back, volume_here}
-use Rattle.command_rules.proofs.Keeping.{came_by, same_ok}
-use Rattle.big_steps.proofs.Starved.{other_full}
-use Rattle.command_rules.proofs.SoundFrames.{of_both, given_by_sound, volume_sound, volume_quiet}
+use Rattle.command_semantics.specs.State.{Stacked, Volume, Table}
+use Rattle.whole_commands.specs.Attaching.{given_back}
+use Rattle.command_semantics.specs.Changes.{Enters}
+use Rattle.command_semantics.specs.Messages.{snap_at}
+use Rattle.command_semantics.specs.Origins.{still}
+use Rattle.command_semantics.specs.Raw.{names_at}
+use Rattle.command_semantics.specs.Snapshots.{stack_of, without_snapshot, parted, left_by}
+use Rattle.command_semantics.specs.Sound.{is_sound}
+use Rattle.command_semantics.proofs.AtPlace.{put_back, volume_here}
+use Rattle.command_semantics.proofs.Keeping.{came_by, same_ok}
+use Rattle.whole_commands.proofs.Starved.{other_full}
+use Rattle.command_semantics.proofs.SoundFrames.{of_both, given_by_sound, volume_sound, volume_quiet}
 
 pub left_by_is : (table : Table) (v k : ℕ) (stacked : Stacked) (stacks : List Stacked) (old new : Volume) → v < length table.volumes → old ≡ get_or table.volumes v old → parted k old ≡ Ok (stacked, new) → stacks ≡ table.stacks ++ stacked ∷ [] → left_by v k table ≡ Ok (record { stacks = stacks; volumes = set table.volumes v new })
 unfolding left_by

@@ -8,15 +8,15 @@ use Rattle.sector.specs.declared.refusal.Refusal.{Refusal}
 use Rattle.layers.specs.declared.stack.Stack.{Stack}
 use Rattle.layers.specs.Stack.{stack_durable}
 use Rattle.volume.specs.Stopped.{devices_of}
-use Rattle.command_rules.specs.State.{Stacked, Volume, Table}
-use Rattle.command_rules.specs.declared.place.Place.{Place}
-use Rattle.command_rules.specs.Events.{origin_at, origin_by}
-use Rattle.command_rules.specs.Losing.{HaveLost, StopsLosing, lasting}
-use Rattle.command_rules.specs.Naming.{AreNamed}
-use Rattle.command_rules.specs.Places.{found, place_of}
-use Rattle.command_rules.specs.Stopping.{stopped, volume_stopped}
-use Rattle.command_rules.proofs.LosingRules.{lost_named}
-use Rattle.command_rules.proofs.StoppingRules.{all_left_named}
+use Rattle.command_semantics.specs.State.{Stacked, Volume, Table}
+use Rattle.command_semantics.specs.declared.place.Place.{Place}
+use Rattle.command_semantics.specs.Events.{origin_at, origin_by}
+use Rattle.command_semantics.specs.Losing.{HaveLost, StopsLosing, lasting}
+use Rattle.command_semantics.specs.Naming.{AreNamed}
+use Rattle.command_semantics.specs.Places.{found, place_of}
+use Rattle.command_semantics.specs.Stopping.{stopped, volume_stopped}
+use Rattle.command_semantics.proofs.LosingRules.{lost_named}
+use Rattle.command_semantics.proofs.StoppingRules.{all_left_named}
 use Rattle.device_list.specs.Backed.{Backed, Left}
 use Rattle.device_list.specs.Stopping.{IsTakenLost}
 use Rattle.device_list.specs.Tables.{table_of}

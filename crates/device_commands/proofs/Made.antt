@@ -4,11 +4,11 @@ use Rattle.std.specs.Prelude.{Result, Ok}
 use Rattle.std.specs.List.{remove}
 use Rattle.std.proofs.lemmas.List.{get_or_default, map-append}
 use Rattle.words.specs.Given.{◌>>=◌}
-use Rattle.big_steps.specs.Devices.{sectors_of}
-use Rattle.command_rules.specs.State.{Stacked, Volume, Table}
-use Rattle.command_rules.specs.Layers.{top}
-use Rattle.command_rules.specs.Origins.{moved_under, origin_made, origin_on, same_size}
-use Rattle.command_rules.proofs.AtPlace.{stack_here}
+use Rattle.whole_commands.specs.Devices.{sectors_of}
+use Rattle.command_semantics.specs.State.{Stacked, Volume, Table}
+use Rattle.command_semantics.specs.Layers.{top}
+use Rattle.command_semantics.specs.Origins.{moved_under, origin_made, origin_on, same_size}
+use Rattle.command_semantics.proofs.AtPlace.{stack_here}
 use Rattle.device_list.specs.Backed.{Backed}
 use Rattle.device_list.proofs.Showing.{shown_in}
 

@@ -6,13 +6,13 @@ use Rattle.words.specs.Given.{Gives}
 use Rattle.layers.specs.declared.stack.Stack.{Stack}
 use Rattle.snapshot.specs.Kept.{Kept}
 use Rattle.volume.specs.Volumed.{Volumed}
-use Rattle.command_rules.specs.declared.place.Place.TheVariants.{In}
-use Rattle.command_rules.specs.declared.place.Role.{Role}
-use Rattle.command_rules.specs.declared.place.Role.TheVariants.{Origin, Under, Snapshot, Store, Merging, MergingStore}
-use Rattle.command_rules.specs.State.{Volume, Table}
-use Rattle.command_rules.specs.Places.{volume_at}
-use Rattle.command_rules.specs.Mapping.{map_at, map_in}
-use Rattle.command_rules.proofs.AtPlace.{volume_here}
+use Rattle.command_semantics.specs.declared.place.Place.TheVariants.{In}
+use Rattle.command_semantics.specs.declared.place.Role.{Role}
+use Rattle.command_semantics.specs.declared.place.Role.TheVariants.{Origin, Under, Snapshot, Store, Merging, MergingStore}
+use Rattle.command_semantics.specs.State.{Volume, Table}
+use Rattle.command_semantics.specs.Places.{volume_at}
+use Rattle.command_semantics.specs.Mapping.{map_at, map_in}
+use Rattle.command_semantics.proofs.AtPlace.{volume_here}
 use Rattle.device_list.specs.Mapping.{IsMapOf, kept_map_if, map_behind}
 use Rattle.device_commands.specs.Mapping.{IsMapHeldIn}
 use Rattle.device_commands.proofs.NeverFull.{IsNeverFull, answer_never, bad_table_never, either_never, no_device_never}

@@ -3,15 +3,15 @@ use Rattle.std.proofs.Common.{◌≡◌, ◌⊎◌, ℕ, ◌<◌, Bool, List, tr
 use Rattle.std.specs.Prelude.{Ok, Err, Some, None, nat_le}
 use Rattle.std.specs.List.{remove}
 use Rattle.sector.specs.declared.refusal.Refusal.{Refusal}
-use Rattle.big_steps.specs.Refusals.{is_starved}
-use Rattle.command_rules.specs.State.{Stacked, Volume, Table}
-use Rattle.command_rules.specs.Places.{place_of}
-use Rattle.command_rules.specs.Disks.{device_count}
-use Rattle.command_rules.specs.Naming.{AreNamed}
-use Rattle.command_rules.specs.Changes.{Serves}
-use Rattle.command_rules.specs.Snapshots.{meet, snapshot_left, snapshot_met, snapshot_by}
-use Rattle.command_rules.proofs.AtPlace.{put_back, stack_here, volume_here}
-use Rattle.command_rules.proofs.NamedFrames.{taken_by_named, put_named}
+use Rattle.whole_commands.specs.Refusals.{is_starved}
+use Rattle.command_semantics.specs.State.{Stacked, Volume, Table}
+use Rattle.command_semantics.specs.Places.{place_of}
+use Rattle.command_semantics.specs.Disks.{device_count}
+use Rattle.command_semantics.specs.Naming.{AreNamed}
+use Rattle.command_semantics.specs.Changes.{Serves}
+use Rattle.command_semantics.specs.Snapshots.{meet, snapshot_left, snapshot_met, snapshot_by}
+use Rattle.command_semantics.proofs.AtPlace.{put_back, stack_here, volume_here}
+use Rattle.command_semantics.proofs.NamedFrames.{taken_by_named, put_named}
 use Rattle.device_list.specs.Names.{IsNamedMore}
 use Rattle.device_commands.specs.Busy.{IsBusyRefused, busy_with}
 use Rattle.device_list.specs.Taking.{IsNotMet}

@@ -5,16 +5,16 @@ use Rattle.sector.specs.declared.refusal.Refusal.{Refusal}
 use Rattle.device.specs.Layers.{is_loud}
 use Rattle.table.specs.declared.lines.Target.{Target}
 use Rattle.table.specs.declared.lines.Target.TheVariants.{Origin, Snapshot, Merge, Flakey, Dust, Error}
-use Rattle.command_rules.specs.declared.place.Place.{Place}
-use Rattle.command_rules.specs.declared.place.Place.TheVariants.{Free, In}
-use Rattle.command_rules.specs.State.{Stacked, Volume, Table}
-use Rattle.command_rules.specs.Places.{place_of, found, volume_at}
-use Rattle.command_rules.specs.Snapshots.{Named, named_in}
-use Rattle.command_rules.specs.Sound.{is_sound, is_sound_stack, is_sound_volume}
-use Rattle.command_rules.proofs.AtPlace.{stack_here, volume_here}
-use Rattle.command_rules.proofs.Keeping.{volume_there}
-use Rattle.command_rules.proofs.NamedRules.{AreThere, named_there}
-use Rattle.command_rules.proofs.SoundFrames.{both, of_both, stack_sound, volume_whole}
+use Rattle.command_semantics.specs.declared.place.Place.{Place}
+use Rattle.command_semantics.specs.declared.place.Place.TheVariants.{Free, In}
+use Rattle.command_semantics.specs.State.{Stacked, Volume, Table}
+use Rattle.command_semantics.specs.Places.{place_of, found, volume_at}
+use Rattle.command_semantics.specs.Snapshots.{Named, named_in}
+use Rattle.command_semantics.specs.Sound.{is_sound, is_sound_stack, is_sound_volume}
+use Rattle.command_semantics.proofs.AtPlace.{stack_here, volume_here}
+use Rattle.command_semantics.proofs.Keeping.{volume_there}
+use Rattle.command_semantics.proofs.NamedRules.{AreThere, named_there}
+use Rattle.command_semantics.proofs.SoundFrames.{both, of_both, stack_sound, volume_whole}
 use Rattle.device_commands.specs.Devices.{named_at}
 use Rattle.device_commands.specs.Ruled.{volume_with, volume_for, is_loud_in, is_quiet_in, is_sound_in, is_sound_for, is_sound_target}
 

@@ -12,29 +12,29 @@ use Rattle.words.specs.Given.{Gives}
 use Rattle.table.specs.declared.lines.Target.{Target}
 use Rattle.command.specs.declared.events.EventWords.{EventWords}
 use Rattle.event_machine.specs.Held.{Moving, SnapHeld}
-use Rattle.big_steps.specs.Devices.{Device}
-use Rattle.big_steps.specs.Merges.{Merge, Merged}
-use Rattle.big_steps.specs.Snaps.{Snap, Volume as Settled}
-use Rattle.command_rules.specs.declared.place.Role.{Role}
-use Rattle.command_rules.specs.declared.place.Role.TheVariants.{Origin, Under, Snapshot, Store, Merging, MergingStore}
-use Rattle.command_rules.specs.declared.place.Place.{Place}
-use Rattle.command_rules.specs.declared.place.Place.TheVariants.{Free, In}
-use Rattle.command_rules.specs.State.{Stacked, Names, Merging as Begun, Volume, Table}
-use Rattle.command_rules.specs.Places.{found, stack_at, volume_at, merging_at}
-use Rattle.command_rules.specs.Changes.{Changes, Steps}
-use Rattle.command_rules.specs.Disks.{make}
-use Rattle.command_rules.specs.Layers.{unused, top, laid, broken}
-use Rattle.command_rules.specs.Origins.{origin_made}
-use Rattle.command_rules.specs.Raw.{copied, names_at, raw_in, raw_in_store, raw_in_merging, raw_under, raw_at, save, loaded_under, loaded_free, in_use, loaded_at, load}
-use Rattle.command_rules.specs.Messages.{with_layers, told_in, told_free, told_under, snap_at, told_snap, told_store, told_merge, told_merging, told_role, told_mounted, told_at, tell}
-use Rattle.command_rules.specs.Lines.{named, over, target_of, line_if, line_in, line_in_store, line_in_merging, origin_target, origin_line, snapshot_line, merging_line, line_of_role, line_at, line_text}
-use Rattle.command_rules.specs.Events.{origin_at, snapshot_at, origin_by, event_at, event_asked, none_due, step_event}
-use Rattle.command_rules.specs.Journal.{checkpointed}
-use Rattle.command_rules.specs.Losing.{StopsLosing}
-use Rattle.command_rules.specs.Merging.{resumed_by, resumed, merge_resumed}
-use Rattle.command_rules.specs.Status.{state_at, status_in}
-use Rattle.command_rules.specs.Stopping.{volume_stopped}
-use Rattle.command_rules.proofs.Starving.{memory_or_not}
+use Rattle.whole_commands.specs.Devices.{Device}
+use Rattle.whole_commands.specs.Merges.{Merge, Merged}
+use Rattle.whole_commands.specs.Snaps.{Snap, Volume as Settled}
+use Rattle.command_semantics.specs.declared.place.Role.{Role}
+use Rattle.command_semantics.specs.declared.place.Role.TheVariants.{Origin, Under, Snapshot, Store, Merging, MergingStore}
+use Rattle.command_semantics.specs.declared.place.Place.{Place}
+use Rattle.command_semantics.specs.declared.place.Place.TheVariants.{Free, In}
+use Rattle.command_semantics.specs.State.{Stacked, Names, Merging as Begun, Volume, Table}
+use Rattle.command_semantics.specs.Places.{found, stack_at, volume_at, merging_at}
+use Rattle.command_semantics.specs.Changes.{Changes, Steps}
+use Rattle.command_semantics.specs.Disks.{make}
+use Rattle.command_semantics.specs.Layers.{unused, top, laid, broken}
+use Rattle.command_semantics.specs.Origins.{origin_made}
+use Rattle.command_semantics.specs.Raw.{copied, names_at, raw_in, raw_in_store, raw_in_merging, raw_under, raw_at, save, loaded_under, loaded_free, in_use, loaded_at, load}
+use Rattle.command_semantics.specs.Messages.{with_layers, told_in, told_free, told_under, snap_at, told_snap, told_store, told_merge, told_merging, told_role, told_mounted, told_at, tell}
+use Rattle.command_semantics.specs.Lines.{named, over, target_of, line_if, line_in, line_in_store, line_in_merging, origin_target, origin_line, snapshot_line, merging_line, line_of_role, line_at, line_text}
+use Rattle.command_semantics.specs.Events.{origin_at, snapshot_at, origin_by, event_at, event_asked, none_due, step_event}
+use Rattle.command_semantics.specs.Journal.{checkpointed}
+use Rattle.command_semantics.specs.Losing.{StopsLosing}
+use Rattle.command_semantics.specs.Merging.{resumed_by, resumed, merge_resumed}
+use Rattle.command_semantics.specs.Status.{state_at, status_in}
+use Rattle.command_semantics.specs.Stopping.{volume_stopped}
+use Rattle.command_semantics.proofs.Starving.{memory_or_not}
 use Rattle.device_list.specs.Status.{IsStatusOf, held_at, status_flying}
 use Rattle.device_commands.proofs.NeverFull.{IsNeverFull, never}
 

@@ -3,15 +3,15 @@ use Rattle.std.proofs.Common.{◌≡◌, ℕ, ◌<◌, true, length, get_or, ref
 use Rattle.std.specs.Prelude.{not, is_some, Option, Some, None, Result, Ok, Err, IfErr, OnOk}
 use Rattle.sector.specs.declared.refusal.Refusal.{Refusal}
 use Rattle.sector.specs.declared.refusal.Refusal.TheVariants.{NoMemory}
-use Rattle.command_rules.specs.State.{Merging, Volume, Table}
-use Rattle.command_rules.specs.Places.{volume_at}
-use Rattle.command_rules.specs.Changes.{Changes}
-use Rattle.command_rules.specs.Messages.{put_volume}
-use Rattle.command_rules.specs.Events.{merge_done}
-use Rattle.command_rules.specs.Sectors.{IsInVolume}
-use Rattle.command_rules.specs.Sound.{is_sound, is_sound_volume}
-use Rattle.command_rules.proofs.AtPlace.{volume_here}
-use Rattle.command_rules.proofs.SoundFrames.{both, put_volume_sound, volume_whole}
+use Rattle.command_semantics.specs.State.{Merging, Volume, Table}
+use Rattle.command_semantics.specs.Places.{volume_at}
+use Rattle.command_semantics.specs.Changes.{Changes}
+use Rattle.command_semantics.specs.Messages.{put_volume}
+use Rattle.command_semantics.specs.Events.{merge_done}
+use Rattle.command_semantics.specs.Sectors.{IsInVolume}
+use Rattle.command_semantics.specs.Sound.{is_sound, is_sound_volume}
+use Rattle.command_semantics.proofs.AtPlace.{volume_here}
+use Rattle.command_semantics.proofs.SoundFrames.{both, put_volume_sound, volume_whole}
 use Rattle.device_commands.specs.Merging.{settled_at}
 use Rattle.device_commands.specs.Ruled.{is_alone_in}
 use Rattle.device_commands.proofs.InVolume.{changed_in, idle_in}

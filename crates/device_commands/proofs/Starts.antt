@@ -4,13 +4,13 @@ use Rattle.std.specs.Prelude.{Result, Ok, Err, IfErr, IfOk}
 use Rattle.sector.specs.declared.refusal.Refusal.{Refusal}
 use Rattle.sector.specs.declared.refusal.Refusal.TheVariants.{Invalid, Overflow}
 use Rattle.plain_machine.specs.declared.request.Op.{Op}
-use Rattle.command_rules.specs.declared.place.Role.{Role}
-use Rattle.command_rules.specs.declared.place.Place.TheVariants.{In}
-use Rattle.command_rules.specs.State.{Volume, Table}
-use Rattle.command_rules.specs.Places.{volume_at}
-use Rattle.command_rules.specs.Messages.{put_volume}
-use Rattle.command_rules.specs.Sectors.{Asked, asked_of, IsInVolume}
-use Rattle.command_rules.specs.Starting.{asked_at}
+use Rattle.command_semantics.specs.declared.place.Role.{Role}
+use Rattle.command_semantics.specs.declared.place.Place.TheVariants.{In}
+use Rattle.command_semantics.specs.State.{Volume, Table}
+use Rattle.command_semantics.specs.Places.{volume_at}
+use Rattle.command_semantics.specs.Messages.{put_volume}
+use Rattle.command_semantics.specs.Sectors.{Asked, asked_of, IsInVolume}
+use Rattle.command_semantics.specs.Starting.{asked_at}
 use Rattle.device_list.specs.Flights.{IsNotStarted}
 use Rattle.device_commands.specs.Flights.{IsNotStartedAs}
 use Rattle.device_commands.proofs.InVolume.{asked_did}

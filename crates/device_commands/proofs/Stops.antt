@@ -4,13 +4,13 @@ use Rattle.std.specs.Prelude.{Result, Ok}
 use Rattle.std.specs.List.{list_all, remove}
 use Rattle.std.proofs.lemmas.List.{append_assoc, append-nil}
 use Rattle.sector.specs.declared.refusal.Refusal.{Refusal}
-use Rattle.command_rules.specs.State.{Stacked, Volume, Table}
-use Rattle.command_rules.specs.Naming.{AreNamed}
-use Rattle.command_rules.specs.Sound.{is_sound, is_sound_stack}
-use Rattle.command_rules.specs.Stopping.{stopped}
-use Rattle.command_rules.proofs.AtPlace.{volume_here}
-use Rattle.command_rules.proofs.SoundFrames.{volume_sound}
-use Rattle.command_rules.proofs.StoppingRules.{all_left_named, all_left_sound}
+use Rattle.command_semantics.specs.State.{Stacked, Volume, Table}
+use Rattle.command_semantics.specs.Naming.{AreNamed}
+use Rattle.command_semantics.specs.Sound.{is_sound, is_sound_stack}
+use Rattle.command_semantics.specs.Stopping.{stopped}
+use Rattle.command_semantics.proofs.AtPlace.{volume_here}
+use Rattle.command_semantics.proofs.SoundFrames.{volume_sound}
+use Rattle.command_semantics.proofs.StoppingRules.{all_left_named, all_left_sound}
 use Rattle.device_commands.specs.Stopping.{stopped_at}
 
 pub stopped_is : (table : Table) (v : ℕ) (old : Volume) (left stacks : List Stacked) (volumes : List Volume) → v < length table.volumes → old ≡ get_or table.volumes v old → left ≡ stopped old → stacks ≡ table.stacks ++ left → volumes ≡ remove table.volumes v → stopped_at v table ≡ Ok (record { stacks = stacks; volumes = volumes })

@@ -2,8 +2,8 @@
 use Rattle.std.specs.Prelude.{◌≡◌, ℕ, Bool, true, false, List, Option, Some, None, Result, Ok, Err, IfErr}
 use Rattle.sector.specs.declared.refusal.Refusal.{Refusal}
 use Rattle.sector.specs.declared.refusal.Refusal.TheVariants.{JournalFull}
-use Rattle.command_rules.specs.State.{Volume, Table}
-use Rattle.command_rules.specs.Places.{place_of, found, volume_at}
+use Rattle.command_semantics.specs.State.{Volume, Table}
+use Rattle.command_semantics.specs.Places.{place_of, found, volume_at}
 use Rattle.device_list.specs.Asked.{has_asked_much}
 use Rattle.device_list.specs.Tables.{table_of}
 use Rattle.device_list.specs.declared.held.Devices.{Devices}

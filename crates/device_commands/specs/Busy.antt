@@ -4,9 +4,9 @@ use Rattle.sector.specs.declared.refusal.Refusal.{Refusal}
 use Rattle.sector.specs.declared.refusal.Refusal.TheVariants.{NotQuiet, Stale, MergeInProgress}
 use Rattle.table.specs.declared.lines.Target.{Target}
 use Rattle.table.specs.declared.lines.Target.TheVariants.{Origin, Snapshot, Merge, Flakey, Dust, Error}
-use Rattle.big_steps.specs.Refusals.{is_starved}
-use Rattle.command_rules.specs.State.{Stacked, Volume, Table}
-use Rattle.command_rules.specs.Snapshots.{Named, named_in}
+use Rattle.whole_commands.specs.Refusals.{is_starved}
+use Rattle.command_semantics.specs.State.{Stacked, Volume, Table}
+use Rattle.command_semantics.specs.Snapshots.{Named, named_in}
 
 -- why a stack is not attached to a volume with anything left to do: a mark of the stack comes first, then a merge
 abbrev pub busy_with : Stacked → Volume → Refusal

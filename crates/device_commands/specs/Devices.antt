@@ -2,15 +2,15 @@
 use Rattle.std.specs.Prelude.{◌≡◌, ◌⊎◌, ◌<◌, ℕ, false, List, length, nat_le, None, Result, Ok, Err, IfErr, IfOk, OnErr}
 use Rattle.sector.specs.declared.refusal.Refusal.{Refusal}
 use Rattle.words.specs.Given.{◌>>=◌}
-use Rattle.command_rules.specs.State.{Table}
-use Rattle.command_rules.specs.Places.{place_of, found, stack_at, volume_at}
-use Rattle.command_rules.specs.Disks.{device_count}
-use Rattle.command_rules.specs.Events.{origin_by}
-use Rattle.command_rules.specs.Sectors.{IsAtRole, IsInVolume}
-use Rattle.command_rules.specs.Snapshots.{Named}
-use Rattle.command_rules.specs.Starting.{asked_at}
-use Rattle.command_rules.specs.declared.place.Place.TheVariants.{In}
-use Rattle.command_rules.specs.declared.place.Role.{Role}
+use Rattle.command_semantics.specs.State.{Table}
+use Rattle.command_semantics.specs.Places.{place_of, found, stack_at, volume_at}
+use Rattle.command_semantics.specs.Disks.{device_count}
+use Rattle.command_semantics.specs.Events.{origin_by}
+use Rattle.command_semantics.specs.Sectors.{IsAtRole, IsInVolume}
+use Rattle.command_semantics.specs.Snapshots.{Named}
+use Rattle.command_semantics.specs.Starting.{asked_at}
+use Rattle.command_semantics.specs.declared.place.Place.TheVariants.{In}
+use Rattle.command_semantics.specs.declared.place.Role.{Role}
 use Rattle.device_list.specs.Names.{KeepsNames}
 use Rattle.device_list.specs.Tables.{StaysNamed, table_of}
 use Rattle.device_list.specs.declared.held.Devices.{Devices}

@@ -9,14 +9,14 @@ use Rattle.plain_machine.specs.declared.event.Outcome.{Outcome}
 use Rattle.plain_machine.specs.declared.request.Op.{Op}
 use Rattle.plain_machine.specs.declared.request.Replied.{Replied}
 use Rattle.plain_machine.specs.declared.request.Overflowing.TheVariants.{Never}
-use Rattle.big_steps.specs.Snaps.{Snap}
-use Rattle.command_rules.specs.declared.place.Role.TheVariants.{Origin, Under, Snapshot, Store, Merging, MergingStore}
-use Rattle.command_rules.specs.declared.place.Place.{Place}
-use Rattle.command_rules.specs.declared.place.Place.TheVariants.{Free, In}
-use Rattle.command_rules.specs.State.{Volume, Table}
-use Rattle.command_rules.specs.Places.{place_of, found, volume_at}
-use Rattle.command_rules.specs.Events.{is_merge_event, numbered, snapshot_named}
-use Rattle.command_rules.specs.Sectors.{Asked, IsAtRole}
+use Rattle.whole_commands.specs.Snaps.{Snap}
+use Rattle.command_semantics.specs.declared.place.Role.TheVariants.{Origin, Under, Snapshot, Store, Merging, MergingStore}
+use Rattle.command_semantics.specs.declared.place.Place.{Place}
+use Rattle.command_semantics.specs.declared.place.Place.TheVariants.{Free, In}
+use Rattle.command_semantics.specs.State.{Volume, Table}
+use Rattle.command_semantics.specs.Places.{place_of, found, volume_at}
+use Rattle.command_semantics.specs.Events.{is_merge_event, numbered, snapshot_named}
+use Rattle.command_semantics.specs.Sectors.{Asked, IsAtRole}
 use Rattle.device_list.specs.Flights.{IsFlushServed, IsFlushedAtRest, IsNotDue, IsNotStarted, IsReadAtRest, IsReadServed, IsStarted, IsStepped, IsWriteServed, IsWrittenAtRest}
 use Rattle.device_list.specs.Tables.{StaysSound, table_of}
 use Rattle.device_list.specs.declared.held.Devices.{Devices}

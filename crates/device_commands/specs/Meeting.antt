@@ -7,13 +7,13 @@ use Rattle.sector.specs.declared.refusal.Refusal.TheVariants.{BadTable, Busy, To
 use Rattle.table.specs.declared.lines.Line.{Line}
 use Rattle.table.specs.declared.lines.Target.{Target}
 use Rattle.table.specs.declared.lines.Target.TheVariants.{Origin, Snapshot, Merge, Flakey, Dust, Error}
-use Rattle.big_steps.specs.Refusals.{is_starved}
-use Rattle.command_rules.specs.Creating.{is_merge}
-use Rattle.command_rules.specs.Disks.{device_count}
-use Rattle.command_rules.specs.Layers.{put}
-use Rattle.command_rules.specs.Places.{place_of}
-use Rattle.command_rules.specs.Snapshots.{Named, named_in}
-use Rattle.command_rules.specs.State.{Stacked, Volume, Table}
+use Rattle.whole_commands.specs.Refusals.{is_starved}
+use Rattle.command_semantics.specs.Creating.{is_merge}
+use Rattle.command_semantics.specs.Disks.{device_count}
+use Rattle.command_semantics.specs.Layers.{put}
+use Rattle.command_semantics.specs.Places.{place_of}
+use Rattle.command_semantics.specs.Snapshots.{Named, named_in}
+use Rattle.command_semantics.specs.State.{Stacked, Volume, Table}
 use Rattle.device_list.specs.Names.{IsNamedMore}
 use Rattle.device_list.specs.Taking.{IsNotMet}
 

@@ -2,11 +2,11 @@
 use Rattle.std.specs.Prelude.{◌≡◌, ℕ, [], ◌∷◌, ◌++◌, slice_set, Result, Ok, Err}
 use Rattle.sector.specs.declared.refusal.Refusal.{Refusal}
 use Rattle.words.specs.Given.{◌>>=◌}
-use Rattle.command_rules.specs.State.{Stacked, Volume, Table}
-use Rattle.command_rules.specs.Places.{volume_at}
-use Rattle.command_rules.specs.Messages.{put_volume}
-use Rattle.command_rules.specs.Events.{merge_done}
-use Rattle.command_rules.specs.Merging.{resumed, finished}
+use Rattle.command_semantics.specs.State.{Stacked, Volume, Table}
+use Rattle.command_semantics.specs.Places.{volume_at}
+use Rattle.command_semantics.specs.Messages.{put_volume}
+use Rattle.command_semantics.specs.Events.{merge_done}
+use Rattle.command_semantics.specs.Merging.{resumed, finished}
 use Rattle.device_list.specs.Names.{IsNamedBegun, IsNamedLess}
 use Rattle.device_list.specs.Flights.{IsUnfinished}
 

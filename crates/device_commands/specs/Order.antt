@@ -3,12 +3,12 @@ use Rattle.std.specs.Prelude.{◌≡◌, ◌<◌, ℕ, true, List, length, map, 
 use Rattle.sector.specs.declared.refusal.Refusal.{Refusal}
 use Rattle.table.specs.declared.lines.Target.{Target}
 use Rattle.table.specs.declared.lines.Target.TheVariants as targets
-use Rattle.command_rules.specs.declared.place.Place.{Place}
-use Rattle.command_rules.specs.declared.place.Place.TheVariants.{Free, In}
+use Rattle.command_semantics.specs.declared.place.Place.{Place}
+use Rattle.command_semantics.specs.declared.place.Place.TheVariants.{Free, In}
 use Rattle.volume_commands.specs.Ordered.{IsOrdered}
-use Rattle.command_rules.specs.State.{Volume, Table, merged_in}
-use Rattle.command_rules.specs.Places.{place_of, volume_at}
-use Rattle.command_rules.specs.Sound.{is_sound_volume}
+use Rattle.command_semantics.specs.State.{Volume, Table, merged_in}
+use Rattle.command_semantics.specs.Places.{place_of, volume_at}
+use Rattle.command_semantics.specs.Sound.{is_sound_volume}
 use Rattle.device_list.specs.Tables.{table_of}
 use Rattle.device_list.specs.declared.held.Devices.{Devices}
 

@@ -6,13 +6,13 @@ use Rattle.sector.specs.declared.refusal.Refusal.TheVariants.{BadTable}
 use Rattle.words.specs.Given.{◌>>=◌}
 use Rattle.table.specs.declared.lines.Target.{Target}
 use Rattle.table.specs.declared.lines.Target.TheVariants.{Origin, Snapshot, Merge, Flakey, Dust, Error}
-use Rattle.command_rules.specs.declared.place.Place.{Place}
-use Rattle.command_rules.specs.declared.place.Place.TheVariants.{Free, In}
-use Rattle.command_rules.specs.State.{Volume, Table}
-use Rattle.command_rules.specs.Places.{place_of, found, volume_at}
-use Rattle.command_rules.specs.Origins.{still}
-use Rattle.command_rules.specs.Snapshots.{Named, named_in}
-use Rattle.command_rules.specs.Sound.{is_sound_stack, is_sound_volume}
+use Rattle.command_semantics.specs.declared.place.Place.{Place}
+use Rattle.command_semantics.specs.declared.place.Place.TheVariants.{Free, In}
+use Rattle.command_semantics.specs.State.{Volume, Table}
+use Rattle.command_semantics.specs.Places.{place_of, found, volume_at}
+use Rattle.command_semantics.specs.Origins.{still}
+use Rattle.command_semantics.specs.Snapshots.{Named, named_in}
+use Rattle.command_semantics.specs.Sound.{is_sound_stack, is_sound_volume}
 
 -- the volume that has the device at a place
 abbrev pub volume_with : Table → Result Place Refusal → Result Volume Refusal

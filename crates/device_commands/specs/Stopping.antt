@@ -6,11 +6,11 @@ use Rattle.sector.specs.declared.refusal.Refusal.TheVariants.{NoMemory}
 use Rattle.layers.specs.Stack.{stack_durable}
 use Rattle.volume.specs.Stopped.{devices_of}
 use Rattle.words.specs.Given.{◌>>=◌}
-use Rattle.command_rules.specs.State.{Stacked, Table}
-use Rattle.command_rules.specs.Places.{volume_at}
-use Rattle.command_rules.specs.Events.{origin_by}
-use Rattle.command_rules.specs.Losing.{HaveLost, lasting}
-use Rattle.command_rules.specs.Stopping.{stopped}
+use Rattle.command_semantics.specs.State.{Stacked, Table}
+use Rattle.command_semantics.specs.Places.{volume_at}
+use Rattle.command_semantics.specs.Events.{origin_by}
+use Rattle.command_semantics.specs.Losing.{HaveLost, lasting}
+use Rattle.command_semantics.specs.Stopping.{stopped}
 use Rattle.device_list.specs.Backed.{Backed, Left}
 use Rattle.device_list.specs.Tables.{table_of}
 use Rattle.device_list.specs.declared.held.Devices.{Devices}

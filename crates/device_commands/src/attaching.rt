@@ -1,11 +1,11 @@
 // Snapshots: taken over an origin, and taken away again.
 ghost use Rattle.std.specs.Prelude.{◌≡◌, ◌≢◌, ◌<◌, length, true, slice_get, Some, IfErr, IfOk};
 ghost use Rattle.sector.specs.declared.refusal.Refusal.TheVariants.{JournalFull};
-ghost use Rattle.command_rules.specs.Changes.{Enters, Serves};
-ghost use Rattle.command_rules.specs.Places.{IsPlaceIn, place_of};
-ghost use Rattle.command_rules.specs.Snapshots.{left_by, named_in, over, snapshot_by, snapshot_made};
-ghost use Rattle.command_rules.specs.declared.place.Place.TheVariants.{In};
-ghost use Rattle.command_rules.specs.declared.place.Role.TheVariants.{Snapshot, Under};
+ghost use Rattle.command_semantics.specs.Changes.{Enters, Serves};
+ghost use Rattle.command_semantics.specs.Places.{IsPlaceIn, place_of};
+ghost use Rattle.command_semantics.specs.Snapshots.{left_by, named_in, over, snapshot_by, snapshot_made};
+ghost use Rattle.command_semantics.specs.declared.place.Place.TheVariants.{In};
+ghost use Rattle.command_semantics.specs.declared.place.Role.TheVariants.{Snapshot, Under};
 ghost use Rattle.device_commands.specs.Busy.{IsBusyRefused};
 ghost use Rattle.device_list.specs.Tables.{StaysSound, table_of};
 ghost use Rattle.device_commands.specs.Asked.{IsFullAt, IsFullFor};
@@ -16,7 +16,7 @@ ghost use Rattle.device_commands.specs.Ruled.{is_sound_for};
 use crate::back::put_stack_back;
 use crate::lay::top;
 use crate::origins::same_size;
-use command_rules::{Place, Role};
+use command_semantics::{Place, Role};
 use device_list::{Devices, find};
 use sector::Refusal;
 use std::alloc::Global;
@@ -65,7 +65,7 @@ fn meet(
 
 /// A snapshot of the origin on the device of a name, with the stack that another is the top of as its store, which may
 /// overflow or not.
-#[tactic(auto, using(device_list::proofs::Showing::shown_there), unfolding(command_rules::specs::Snapshots::snapshot_made, command_rules::specs::Snapshots::named_in))]
+#[tactic(auto, using(device_list::proofs::Showing::shown_there), unfolding(command_semantics::specs::Snapshots::snapshot_made, command_semantics::specs::Snapshots::named_in))]
 pub fn make_snapshot(
     alloc: Global,
     held: &mut Devices,

@@ -1,8 +1,8 @@
 // The journal of a volume.
 ghost use Rattle.std.specs.Prelude.{◌≡◌, ◌<◌, Ok, length};
-ghost use Rattle.command_rules.specs.Changes.{Changes};
-ghost use Rattle.command_rules.specs.Events.{origin_by};
-ghost use Rattle.command_rules.specs.Journal.{checkpointed};
+ghost use Rattle.command_semantics.specs.Changes.{Changes};
+ghost use Rattle.command_semantics.specs.Events.{origin_by};
+ghost use Rattle.command_semantics.specs.Journal.{checkpointed};
 ghost use Rattle.device_list.specs.Tables.{table_of};
 ghost use Rattle.device_commands.specs.Devices.{NeedsOrigin};
 
@@ -23,7 +23,7 @@ fn checkpoint_at(held: &mut Devices, v: usize) -> Result<(), Refusal>
 /// `checkpoint VOL`: folds the journal of an origin's volume, so that it has room again, whatever is in flight; no device is
 /// changed. In this order: `NoSuchDevice` for a name that no device has, `BadTable` for a device that is no origin, `NoMemory`
 /// where the allocator refuses what is needed. A refusal changes nothing.
-#[tactic(auto, unfolding(command_rules::specs::Events::origin_by, command_rules::specs::Journal::checkpointed))]
+#[tactic(auto, unfolding(command_semantics::specs::Events::origin_by, command_semantics::specs::Journal::checkpointed))]
 pub fn checkpoint_device(held: &mut Devices, name: &Name) -> Result<(), Refusal>
     ensures asks { NeedsOrigin name.now held.old result }
     ensures done { Changes result (table_of held.old) (table_of held.new) (checkpointed name.now (table_of held.old)) }

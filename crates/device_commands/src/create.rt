@@ -2,12 +2,12 @@
 ghost use Rattle.std.specs.Prelude.{◌≡◌, nat_le, true, false, None, IfErr};
 ghost use Rattle.sector.specs.declared.refusal.Refusal.TheVariants.{JournalFull};
 ghost use Rattle.table.specs.Lawful.{is_line, is_target};
-ghost use Rattle.command_rules.specs.Changes.{ServesIf};
-ghost use Rattle.command_rules.specs.Creating.{create, is_merge, made};
-ghost use Rattle.command_rules.specs.Disks.{device_count};
-ghost use Rattle.command_rules.specs.Journal.{enters_journal};
-ghost use Rattle.command_rules.specs.Places.{place_of};
-ghost use Rattle.command_rules.specs.Sound.{drops_writes, is_sound};
+ghost use Rattle.command_semantics.specs.Changes.{ServesIf};
+ghost use Rattle.command_semantics.specs.Creating.{create, is_merge, made};
+ghost use Rattle.command_semantics.specs.Disks.{device_count};
+ghost use Rattle.command_semantics.specs.Journal.{enters_journal};
+ghost use Rattle.command_semantics.specs.Places.{place_of};
+ghost use Rattle.command_semantics.specs.Sound.{drops_writes, is_sound};
 ghost use Rattle.device_commands.specs.Asked.{IsAskedMuch};
 ghost use Rattle.device_commands.specs.Busy.{IsBusyTarget};
 ghost use Rattle.device_list.specs.Tables.{StaysNamed, table_of};
@@ -28,7 +28,7 @@ use table::{Line, Target};
 use words::Name;
 
 /// The device of a target.
-#[tactic(auto, unfolding(command_rules::specs::Creating::made))]
+#[tactic(auto, unfolding(command_semantics::specs::Creating::made))]
 fn made(
     alloc: Global,
     held: &mut Devices,
@@ -79,7 +79,7 @@ fn is_merge(target: &Target) -> bool
 /// that a device has, `TooMany` where there are 64 devices, then by the target: `JournalFull` only for a snapshot, where the
 /// journal of its origin's volume has no room.
 #[inline(never)]
-#[tactic(auto, unfolding(command_rules::specs::Creating::create, crate::specs::Meeting::IsCreated))]
+#[tactic(auto, unfolding(command_semantics::specs::Creating::create, crate::specs::Meeting::IsCreated))]
 pub fn create_device(
     alloc: Global,
     held: &mut Devices,

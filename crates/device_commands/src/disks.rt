@@ -1,8 +1,8 @@
 // Raw disks: making one.
 ghost use Rattle.std.specs.Prelude.{◌≤◌, length};
-ghost use Rattle.command_rules.specs.Changes.{Changes};
+ghost use Rattle.command_semantics.specs.Changes.{Changes};
 ghost use Rattle.device_list.specs.Tables.{StaysNamed, StaysSound, table_of};
-ghost use Rattle.command_rules.specs.Disks.{make};
+ghost use Rattle.command_semantics.specs.Disks.{make};
 
 use device::{MAX_SECTORS, MemDisk};
 use device_list::{Devices, find, is_full};
@@ -14,7 +14,7 @@ use words::Name;
 /// `disk NAME N`: a disk of N zero sectors. In this order: `Busy` for a name that a device has, `OutOfRange` for a number of
 /// sectors outside 1 to 2^24, `TooMany` where there are 64 devices, `NoMemory` where the allocator refuses room.
 #[inline(never)]
-#[tactic(auto, unfolding(command_rules::specs::Disks::make))]
+#[tactic(auto, unfolding(command_semantics::specs::Disks::make))]
 pub fn make_disk(alloc: Global, held: &mut Devices, name: Name, sectors: u32) -> Result<(), Refusal>
     ensures done { Changes result (table_of held.old) (table_of held.new) (make name sectors (table_of held.old)) }
     ensures sound { StaysSound held.old held.new }

@@ -3,14 +3,14 @@ ghost use Rattle.std.specs.Prelude.{◌≡◌, ◌≢◌, ◌<◌, ◌≤◌, �
 ghost use Rattle.std.specs.Option.{option_copied};
 ghost use Rattle.plain_machine.specs.declared.request.Op.TheVariants.{Read, Write};
 ghost use Rattle.sector.specs.declared.refusal.Refusal.TheVariants.{JournalFull, NoMemory};
-ghost use Rattle.command_rules.specs.Changes.{Changes, Does, refused};
-ghost use Rattle.command_rules.specs.Events.{event_asked, event_at, is_merge_event, none_due, numbered, origin_at, origin_by, rested, settle, snapshot_at, snapshot_named, step_event};
-ghost use Rattle.command_rules.specs.Places.{IsPlaceIn, volume_at};
-ghost use Rattle.command_rules.specs.Sectors.{IsInVolume};
-ghost use Rattle.command_rules.specs.Sound.{is_sound};
-ghost use Rattle.command_rules.specs.Starting.{asked_at, read_asked, write_asked};
-ghost use Rattle.command_rules.specs.declared.place.Place.TheVariants.{In};
-ghost use Rattle.command_rules.specs.declared.place.Role.TheVariants.{Merging, Origin, Snapshot};
+ghost use Rattle.command_semantics.specs.Changes.{Changes, Does, refused};
+ghost use Rattle.command_semantics.specs.Events.{event_asked, event_at, is_merge_event, none_due, numbered, origin_at, origin_by, rested, settle, snapshot_at, snapshot_named, step_event};
+ghost use Rattle.command_semantics.specs.Places.{IsPlaceIn, volume_at};
+ghost use Rattle.command_semantics.specs.Sectors.{IsInVolume};
+ghost use Rattle.command_semantics.specs.Sound.{is_sound};
+ghost use Rattle.command_semantics.specs.Starting.{asked_at, read_asked, write_asked};
+ghost use Rattle.command_semantics.specs.declared.place.Place.TheVariants.{In};
+ghost use Rattle.command_semantics.specs.declared.place.Role.TheVariants.{Merging, Origin, Snapshot};
 ghost use Rattle.device_list.specs.Flights.{IsSettledBy, IsStepped};
 ghost use Rattle.device_list.specs.Tables.{StaysNamed, StaysSound, table_of};
 ghost use Rattle.device_commands.specs.Asked.{IsFullAt, IsFullFor};
@@ -23,7 +23,7 @@ ghost use Rattle.volume.specs.EventKinds.{is_of_merge};
 
 use crate::order::find_in_order;
 use command::EventWords;
-use command_rules::{Place, Role};
+use command_semantics::{Place, Role};
 use device_list::{Devices, find_device};
 use device_stacks::{some_sectors, whole_sectors};
 use plain_machine::{NotDue, Op, Outcome, Replied, ReqId, SnapId};
@@ -61,7 +61,7 @@ fn start_at(
 /// this order: `OutOfRange` for a number of sectors outside 1 to 2048, `NoSuchDevice` for a name that no device has,
 /// `BadTable` for a disk or a layer. Then `OutOfRange` where the sectors don't lie inside the origin, `MergingSnapshot` for a
 /// snapshot that is being merged, `TooMany` where the volume has taken too many, and as the volume refuses requests.
-#[tactic(auto, unfolding(command_rules::specs::Starting::read_asked, command_rules::specs::Starting::asked_by, crate::specs::Devices::Flies, crate::specs::Devices::KeepsOthers))]
+#[tactic(auto, unfolding(command_semantics::specs::Starting::read_asked, command_semantics::specs::Starting::asked_by, crate::specs::Devices::Flies, crate::specs::Devices::KeepsOthers))]
 pub fn start_read(
     alloc: Global,
     held: &mut Devices,
@@ -87,7 +87,7 @@ pub fn start_read(
 
 /// `start DEV write S DATA`: starts a write of an origin or of a snapshot, and gives its number; it ends in a later command.
 /// In this order: `BadTable` for bytes that are no whole sectors, `OutOfRange` where they are not 1 to 2048, then as a read.
-#[tactic(auto, unfolding(command_rules::specs::Starting::write_asked, command_rules::specs::Starting::asked_by, crate::specs::Devices::Flies, crate::specs::Devices::KeepsOthers))]
+#[tactic(auto, unfolding(command_semantics::specs::Starting::write_asked, command_semantics::specs::Starting::asked_by, crate::specs::Devices::Flies, crate::specs::Devices::KeepsOthers))]
 pub fn start_write(
     alloc: Global,
     held: &mut Devices,
@@ -238,7 +238,7 @@ fn step_at(held: &mut Devices, v: usize, event: plain_machine::Event) -> Result<
 /// `step VOL EVENT`: does one event of an origin's volume. In this order: `NoSuchDevice` for a name that no device has, the
 /// volume's before the snapshot's, and `BadTable` where the one is no origin or the other no snapshot. Then `NotDue` for a snapshot
 /// of another volume, for one that is being merged and for an event that is not due. A refusal changes nothing.
-#[tactic(auto, unfolding(command_rules::specs::Events::event_asked, command_rules::specs::Events::step_event, crate::specs::Devices::KeepsOthers))]
+#[tactic(auto, unfolding(command_semantics::specs::Events::event_asked, command_semantics::specs::Events::step_event, crate::specs::Devices::KeepsOthers))]
 pub fn step_device(held: &mut Devices, name: &Name, event: &EventWords) -> Result<Outcome, Refusal>
     ensures asks { IfErr (event_asked name.now event.now (table_of held.old)) (λ e. result ≡ Err e) }
     ensures done { is_merge_event event.now ≡ false → is_quiet_in (volume_for name.now (table_of held.old)) ≡ true → Does result (table_of held.new) (λ t. t ≡ table_of held.old) (refused (table_of held.old) (step_event name.now event.now (table_of held.old))) }
@@ -281,7 +281,7 @@ fn settle_at(held: &mut Devices, v: usize, ended: &mut Vec<Replied>) -> Result<(
 /// `NoSuchDevice` for a name that no device has, `BadTable` for a device that is no origin, `NoMemory` where something is in flight
 /// and the allocator refuses room for the replies. A refusal changes nothing.
 #[inline(never)]
-#[tactic(auto, unfolding(command_rules::specs::Events::origin_by, command_rules::specs::Events::rested, command_rules::specs::Events::settle, crate::specs::Devices::KeepsOthers))]
+#[tactic(auto, unfolding(command_semantics::specs::Events::origin_by, command_semantics::specs::Events::rested, command_semantics::specs::Events::settle, crate::specs::Devices::KeepsOthers))]
 pub fn settle_device(
     held: &mut Devices,
     name: &Name,

@@ -3,11 +3,11 @@ ghost use Rattle.std.specs.Prelude.{◌≡◌, ◌≢◌, ◌+◌, ◌<◌, ◌�
 ghost use Rattle.sector.specs.declared.refusal.Refusal.TheVariants.{JournalFull};
 ghost use Rattle.device.specs.Layers.{Dusty};
 ghost use Rattle.layers.specs.Layer.{features_of as layer_features, flakey_layer};
-ghost use Rattle.command_rules.specs.Changes.{Changes};
+ghost use Rattle.command_semantics.specs.Changes.{Changes};
 ghost use Rattle.device_list.specs.Tables.{table_of};
-ghost use Rattle.command_rules.specs.Layers.{broken, features_of, laid, taken, top, unused};
+ghost use Rattle.command_semantics.specs.Layers.{broken, features_of, laid, taken, top, unused};
 
-use command_rules::{Place, Role};
+use command_semantics::{Place, Role};
 use device::MAX_SECTORS;
 use device_list::{Devices, find_device};
 use device_stacks::NamedStack;
@@ -40,7 +40,7 @@ fn unused(place: Place) -> Result<usize, Refusal>
 }
 
 /// The stack that nothing uses and that the device of a name is the top of.
-#[tactic(auto, unfolding(command_rules::specs::Layers::top))]
+#[tactic(auto, unfolding(command_semantics::specs::Layers::top))]
 pub fn top(held: &Devices, name: &Name) -> Result<usize, Refusal>
     ensures value { result ≡ top name.now (table_of held.now) }
     ensures within { IfOk result (λ i. i < length held.now.stacks.items) }
@@ -51,7 +51,7 @@ pub fn top(held: &Devices, name: &Name) -> Result<usize, Refusal>
 }
 
 /// Puts a flakey layer over the device of a name.
-#[tactic(auto, unfolding(command_rules::specs::Layers::laid))]
+#[tactic(auto, unfolding(command_semantics::specs::Layers::laid))]
 pub fn lay_flakey(
     alloc: Global,
     held: &mut Devices,
@@ -66,7 +66,7 @@ pub fn lay_flakey(
 }
 
 /// Puts a dust layer over the device of a name.
-#[tactic(auto, unfolding(command_rules::specs::Layers::laid))]
+#[tactic(auto, unfolding(command_semantics::specs::Layers::laid))]
 pub fn lay_dust(
     alloc: Global,
     held: &mut Devices,

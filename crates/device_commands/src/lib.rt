@@ -1,7 +1,7 @@
 //! The program's named devices: disks, layers over them, and volumes, and what each command does to them.
 //!
 //! It stands on `device_list` for all devices by name, on `layers` for stacks of layers, on `table` for the lines that describe
-//! devices, and on `big_steps` for what a volume does. It promises that a command answers and leaves exactly what its definition
+//! devices, and on `whole_commands` for what a volume does. It promises that a command answers and leaves exactly what its definition
 //! says of the table of devices before it, with the first refusal in the stated order: in any case where it asks nothing of a
 //! volume, and else where no device of that volume drops writes and nothing is in flight in it. Want of memory may change an
 //! answer, and so may want of room in a volume's journal, of a command that takes a place there; then nothing else changed, but

@@ -3,7 +3,7 @@ ghost use Rattle.std.specs.Prelude.{◌≡◌, ◌++◌, IfErr, OnOk, Ok, map};
 ghost use Rattle.std.specs.List.{flat_map};
 ghost use Rattle.sector.specs.declared.refusal.Refusal.TheVariants.{NoMemory};
 ghost use Rattle.words.specs.Given.{Gives};
-ghost use Rattle.command_rules.specs.Listing.{free_items, listed, volume_items};
+ghost use Rattle.command_semantics.specs.Listing.{free_items, listed, volume_items};
 ghost use Rattle.device_list.specs.Tables.{table_of};
 
 use device_list::{Devices, NamedVolume};
@@ -36,7 +36,7 @@ fn add_volumes(out: &mut Vec<u8>, volumes: &[NamedVolume]) -> Result<(), Refusal
 
 /// `ls`: all devices, each with its table line; a disk has none. The one refusal is `NoMemory`.
 #[inline(never)]
-#[tactic(auto, using(device_stacks::proofs::Listed::more), unfolding(command_rules::specs::Listing::listed))]
+#[tactic(auto, using(device_stacks::proofs::Listed::more), unfolding(command_semantics::specs::Listing::listed))]
 pub fn list_text(alloc: Global, held: &Devices) -> Result<Text, Refusal>
     ensures { Gives result (Ok (listed (table_of held.now))) }
 {

@@ -1,14 +1,14 @@
 // A snapshot is merged into its origin: the merge begins, goes on after a fault, and is finished.
 ghost use Rattle.std.specs.Prelude.{◌≡◌, ◌≢◌, ◌<◌, length, true, false, Err, IfErr, IfOk, OnOk};
 ghost use Rattle.sector.specs.declared.refusal.Refusal.TheVariants.{JournalFull};
-ghost use Rattle.big_steps.specs.Refusals.{is_starved};
-ghost use Rattle.command_rules.specs.Changes.{Changes, Enters};
-ghost use Rattle.command_rules.specs.Events.{origin_by};
-ghost use Rattle.command_rules.specs.Merging.{begun_at, merge_begun, merge_finished, merge_resumed};
-ghost use Rattle.command_rules.specs.Places.{IsPlaceIn, volume_at};
-ghost use Rattle.command_rules.specs.Sectors.{IsInVolume};
-ghost use Rattle.command_rules.specs.declared.place.Place.TheVariants.{In};
-ghost use Rattle.command_rules.specs.declared.place.Role.TheVariants.{Snapshot};
+ghost use Rattle.whole_commands.specs.Refusals.{is_starved};
+ghost use Rattle.command_semantics.specs.Changes.{Changes, Enters};
+ghost use Rattle.command_semantics.specs.Events.{origin_by};
+ghost use Rattle.command_semantics.specs.Merging.{begun_at, merge_begun, merge_finished, merge_resumed};
+ghost use Rattle.command_semantics.specs.Places.{IsPlaceIn, volume_at};
+ghost use Rattle.command_semantics.specs.Sectors.{IsInVolume};
+ghost use Rattle.command_semantics.specs.declared.place.Place.TheVariants.{In};
+ghost use Rattle.command_semantics.specs.declared.place.Role.TheVariants.{Snapshot};
 ghost use Rattle.device_list.specs.Tables.{StaysNamed, StaysSound, table_of};
 ghost use Rattle.device_commands.specs.Asked.{IsFullAt, IsFullFor};
 ghost use Rattle.device_commands.specs.Devices.{NeedsOrigin, StaysOnErr};
@@ -19,7 +19,7 @@ ghost use Rattle.device_commands.specs.Ruled.{is_sound_in, volume_for};
 
 use crate::flights::origin_at;
 use crate::order::find_in_order;
-use command_rules::{Place, Role};
+use command_semantics::{Place, Role};
 use device_list::{Devices, find_device};
 use sector::Refusal;
 use std::alloc::Global;
@@ -27,7 +27,7 @@ use words::Name;
 
 /// The volume of the snapshot at a place, and the snapshot's place in it. `MergeInProgress` for one that is being merged,
 /// `BadTable` for another device.
-#[tactic(auto, unfolding(command_rules::specs::Merging::begun_at))]
+#[tactic(auto, unfolding(command_semantics::specs::Merging::begun_at))]
 fn to_merge(held: &Devices, place: Place) -> Result<(usize, usize), Refusal>
     ensures place { IfOk result (λ at. place ≡ In at.0 (Snapshot at.1)) }
     ensures err { IfErr result (λ e. begun_at place (table_of held.now) ≡ Err e) }
@@ -60,7 +60,7 @@ fn begin_at(alloc: Global, held: &mut Devices, v: usize, k: usize) -> Result<(),
 /// `NotQuiet` where its volume has something left to do, `NoMemory` where the allocator refuses what the merge will need. Where
 /// the journal of its volume has no room, `JournalFull` may stand in place of the last three.
 #[inline(never)]
-#[tactic(auto, unfolding(command_rules::specs::Merging::merge_begun))]
+#[tactic(auto, unfolding(command_semantics::specs::Merging::merge_begun))]
 pub fn merge_device(alloc: Global, held: &mut Devices, name: &Name) -> Result<(), Refusal>
     ensures done { is_sound_in (volume_for name.now (table_of held.old)) ≡ true → Enters result (table_of held.old) (table_of held.new) (merge_begun name.now (table_of held.old)) }
     ensures refused { IfErr result (λ e. (table_of held.new ≡ table_of held.old) × (is_starved e ≡ false → merge_begun name.now (table_of held.old) ≡ Err e)) }
@@ -88,7 +88,7 @@ fn resume_at(held: &mut Devices, v: usize) -> Result<(), Refusal>
 /// `resume VOL`: lets the merge of an origin's volume go on that a fault stopped, whatever is in flight; one that goes on is
 /// left as it is. In this order: `NoSuchDevice` for a name that no device has, `BadTable` for a device that is no origin,
 /// `NotMerging` where no merge is begun.
-#[tactic(auto, unfolding(command_rules::specs::Events::origin_by, command_rules::specs::Merging::merge_resumed))]
+#[tactic(auto, unfolding(command_semantics::specs::Events::origin_by, command_semantics::specs::Merging::merge_resumed))]
 pub fn resume_device(held: &mut Devices, name: &Name) -> Result<(), Refusal>
     ensures done { Changes result (table_of held.old) (table_of held.new) (merge_resumed name.now (table_of held.old)) }
     ensures sound { StaysSound held.old held.new }
@@ -126,7 +126,7 @@ fn finish_at(held: &mut Devices, v: usize) -> Result<(), Refusal>
 /// `NoMemory` where the allocator refuses room for what is left, and `JournalFull` where the journal has none, may come before
 /// those two. A refusal changes nothing.
 #[inline(never)]
-#[tactic(auto, unfolding(command_rules::specs::Events::origin_by, command_rules::specs::Merging::merge_finished))]
+#[tactic(auto, unfolding(command_semantics::specs::Events::origin_by, command_semantics::specs::Merging::merge_finished))]
 pub fn finish_device(held: &mut Devices, name: &Name) -> Result<(), Refusal>
     ensures asks { NeedsOrigin name.now held.old result }
     ensures done { is_sound_in (volume_for name.now (table_of held.old)) ≡ true → Enters result (table_of held.old) (table_of held.new) (merge_finished name.now (table_of held.old)) }

@@ -1,12 +1,12 @@
 // Messages to dust layers, and the time.
 ghost use Rattle.std.specs.Prelude.{◌≡◌, ◌<◌, length, map};
-ghost use Rattle.command_rules.specs.Changes.{Steps};
+ghost use Rattle.command_semantics.specs.Changes.{Steps};
 ghost use Rattle.device_list.specs.Tables.{StaysNamed, StaysSound, table_of};
-ghost use Rattle.command_rules.specs.Messages.{stack_ticked, tell, ticked, told_at, volume_ticked};
-ghost use Rattle.command_rules.specs.Places.{IsPlaceIn};
-ghost use Rattle.command_rules.specs.declared.place.Place.TheVariants.{Free, In};
+ghost use Rattle.command_semantics.specs.Messages.{stack_ticked, tell, ticked, told_at, volume_ticked};
+ghost use Rattle.command_semantics.specs.Places.{IsPlaceIn};
+ghost use Rattle.command_semantics.specs.declared.place.Place.TheVariants.{Free, In};
 
-use command_rules::{Place, Role};
+use command_semantics::{Place, Role};
 use device_list::{Devices, NamedVolume, find_device};
 use device_stacks::NamedStack;
 use layers::{Answer, Message};
@@ -37,7 +37,7 @@ fn tell_in(held: &mut Devices, v: usize, role: Role, message: &Message) -> Resul
 /// `message DEV 0 WORDS`: a message to a dust layer, wherever its stack is used. In this order: `NoSuchDevice` for a name
 /// that no device has, `BadTable` for a device that is no dust layer, `OutOfRange` for a block past its end, `NoMemory`
 /// where a block is added and the allocator refuses room.
-#[tactic(auto, unfolding(command_rules::specs::Messages::tell))]
+#[tactic(auto, unfolding(command_semantics::specs::Messages::tell))]
 pub fn tell(held: &mut Devices, name: &Name, message: &Message) -> Result<Answer, Refusal>
     ensures done { Steps result (table_of held.old) (table_of held.new) (tell name.now message.now (table_of held.old)) }
     ensures sound { StaysSound held.old held.new }
@@ -66,7 +66,7 @@ fn tick_volumes(volumes: &mut [NamedVolume], seconds: u32)
 }
 
 /// `tick N`: so many seconds pass for every flakey layer.
-#[tactic(auto, unfolding(command_rules::specs::Messages::ticked))]
+#[tactic(auto, unfolding(command_semantics::specs::Messages::ticked))]
 pub fn tick(held: &mut Devices, seconds: u32)
     ensures { table_of held.new ≡ ticked seconds (table_of held.old) }
 {

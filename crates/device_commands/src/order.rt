@@ -2,11 +2,11 @@
 ghost use Rattle.std.specs.Prelude.{◌≡◌, ◌≢◌, ◌<◌, length, IfErr, IfOk};
 ghost use Rattle.sector.specs.declared.refusal.Refusal.TheVariants.{JournalFull};
 ghost use Rattle.std.specs.Option.{option_copied};
-ghost use Rattle.command_rules.specs.Places.{found, place_of, volume_at, IsPlaceIn};
+ghost use Rattle.command_semantics.specs.Places.{found, place_of, volume_at, IsPlaceIn};
 ghost use Rattle.device_list.specs.Tables.{table_of};
 ghost use Rattle.device_commands.specs.Order.{IsInOrderIn, IsLookedAt, IsOrderedFor, changed_under};
 
-use command_rules::Place;
+use command_semantics::Place;
 use device_list::{Devices, find};
 use sector::Refusal;
 use table::Target;

@@ -1,8 +1,8 @@
 // Origins: made over a stack, and taken away again.
 ghost use Rattle.std.specs.Prelude.{◌≡◌, ◌≢◌, ◌<◌, length, IfErr};
 ghost use Rattle.sector.specs.declared.refusal.Refusal.TheVariants.{JournalFull};
-ghost use Rattle.command_rules.specs.Changes.{Changes};
-ghost use Rattle.command_rules.specs.Origins.{closed, origin_made, same_size};
+ghost use Rattle.command_semantics.specs.Changes.{Changes};
+ghost use Rattle.command_semantics.specs.Origins.{closed, origin_made, same_size};
 ghost use Rattle.device_list.specs.Tables.{StaysSound, table_of};
 
 use crate::back::{put_stack_back, put_volume_back};
@@ -25,7 +25,7 @@ pub fn same_size(line: u32, device: u64) -> Result<(), Refusal>
 }
 
 /// An origin takes over the stack that the device of a name is the top of.
-#[tactic(auto, unfolding(command_rules::specs::Origins::origin_made))]
+#[tactic(auto, unfolding(command_semantics::specs::Origins::origin_made))]
 pub fn make_origin(
     alloc: Global,
     held: &mut Devices,

@@ -2,13 +2,13 @@
 ghost use Rattle.std.specs.Prelude.{◌≡◌, ◌≤◌, ◌<◌, ◌+◌, ◌*◌, ◌/◌, length, slice_get, MatchResult, Ok, Err};
 ghost use Rattle.device.specs.Disk.{disk_contents};
 ghost use Rattle.words.specs.Given.{Gives};
-ghost use Rattle.command_rules.specs.Changes.{Changes};
+ghost use Rattle.command_semantics.specs.Changes.{Changes};
 ghost use Rattle.device_list.specs.Tables.{StaysNamed, StaysSound, table_of};
-ghost use Rattle.command_rules.specs.Places.{IsPlaceIn, IsRoleIn};
-ghost use Rattle.command_rules.specs.Raw.{copied, cut, in_use, load, loaded_at, raw_at, save};
-ghost use Rattle.command_rules.specs.declared.place.Place.TheVariants.{Free};
+ghost use Rattle.command_semantics.specs.Places.{IsPlaceIn, IsRoleIn};
+ghost use Rattle.command_semantics.specs.Raw.{copied, cut, in_use, load, loaded_at, raw_at, save};
+ghost use Rattle.command_semantics.specs.declared.place.Place.TheVariants.{Free};
 
-use command_rules::{Place, Role};
+use command_semantics::{Place, Role};
 use device::{Block, MemDisk};
 use device_list::{Devices, NamedVolume, find_device};
 use device_stacks::{range_in, some_sectors, whole_sectors};
@@ -17,7 +17,7 @@ use std::alloc::Global;
 use words::Name;
 
 /// The disk at a place. `BadTable` for another device.
-#[tactic(auto, using(device_list::proofs::Showing::shown_there), unfolding(command_rules::specs::Raw::raw_at))]
+#[tactic(auto, using(device_list::proofs::Showing::shown_there), unfolding(command_semantics::specs::Raw::raw_at))]
 fn disk_at(held: &Devices, place: Place) -> Result<&MemDisk, Refusal>
     requires { IsPlaceIn place (table_of held.now) }
     ensures { MatchResult result (λ disk. raw_at place (table_of held.now) ≡ Ok (disk_contents disk.now)) (λ e. raw_at place (table_of held.now) ≡ Err e) }
@@ -45,7 +45,7 @@ fn raw_sectors(alloc: Global, disk: &MemDisk, first: u32, count: u32) -> Result<
 /// 2048, `NoSuchDevice` for a name that no device has, `BadTable` for a device that is no disk. Then `OutOfRange` where the
 /// sectors don't lie inside it, and `NoMemory` where the allocator refuses the bytes.
 #[inline(never)]
-#[tactic(auto, unfolding(command_rules::specs::Raw::save))]
+#[tactic(auto, unfolding(command_semantics::specs::Raw::save))]
 pub fn save_disk(
     alloc: Global,
     held: &Devices,
@@ -78,7 +78,7 @@ fn load_free(
 }
 
 /// Refuses to write raw sectors of a device of a volume.
-#[tactic(auto, using(device::specs::Laws::disk_whole), unfolding(command_rules::specs::Raw::in_use))]
+#[tactic(auto, using(device::specs::Laws::disk_whole), unfolding(command_semantics::specs::Raw::in_use))]
 fn refuse_load(volume: &NamedVolume, role: Role, first: u32, count: u32) -> Refusal
     requires { IsRoleIn role volume.now.shown }
     ensures { in_use role first count volume.now.shown ≡ Err result }
@@ -98,7 +98,7 @@ fn refuse_load(volume: &NamedVolume, role: Role, first: u32, count: u32) -> Refu
 /// not 1 to 2048, `NoSuchDevice` for a name that no device has. Then `BadTable` for a device that is no disk, `OutOfRange` where
 /// the sectors don't lie inside it, and `Busy` where a layer, an origin or a snapshot uses it.
 #[inline(never)]
-#[tactic(auto, unfolding(command_rules::specs::Raw::load, command_rules::specs::Raw::loaded_at))]
+#[tactic(auto, unfolding(command_semantics::specs::Raw::load, command_semantics::specs::Raw::loaded_at))]
 pub fn load_disk(held: &mut Devices, name: &Name, first: u32, bytes: &Buf) -> Result<(), Refusal>
     ensures done { Changes result (table_of held.old) (table_of held.new) (load name.now first bytes.now (table_of held.old)) }
     ensures sound { StaysSound held.old held.new }
@@ -115,7 +115,7 @@ pub fn load_disk(held: &mut Devices, name: &Name, first: u32, bytes: &Buf) -> Re
 /// `copy DISK S DISK N`: raw sectors of a disk, used or not, written to the same place of a disk that nothing uses: what `save_disk`
 /// gives of the first is what `load_disk` writes to the second. It is refused as these two are, in this order; a refusal changes
 /// nothing.
-#[tactic(auto, unfolding(command_rules::specs::Raw::copied))]
+#[tactic(auto, unfolding(command_semantics::specs::Raw::copied))]
 pub fn copy_disk(
     alloc: Global,
     held: &mut Devices,

@@ -1,10 +1,10 @@
 // Taking devices away.
 ghost use Rattle.std.specs.Prelude.{◌≡◌, ◌<◌, length};
 ghost use Rattle.sector.specs.declared.refusal.Refusal.TheVariants.{JournalFull};
-ghost use Rattle.command_rules.specs.Changes.{Enters};
-ghost use Rattle.command_rules.specs.Places.{IsPlaceIn};
-ghost use Rattle.command_rules.specs.Removing.{lowered, take_away};
-ghost use Rattle.command_rules.specs.declared.place.Place.TheVariants.{Free};
+ghost use Rattle.command_semantics.specs.Changes.{Enters};
+ghost use Rattle.command_semantics.specs.Places.{IsPlaceIn};
+ghost use Rattle.command_semantics.specs.Removing.{lowered, take_away};
+ghost use Rattle.command_semantics.specs.declared.place.Place.TheVariants.{Free};
 ghost use Rattle.device_list.specs.Tables.{StaysNamed, StaysSound, table_of};
 ghost use Rattle.device_commands.specs.Asked.{IsFullFor};
 ghost use Rattle.device_commands.specs.Order.{IsOrderedFor};
@@ -12,7 +12,7 @@ ghost use Rattle.device_commands.specs.Order.{IsOrderedFor};
 use crate::attaching::detach;
 use crate::order::find_in_order;
 use crate::origins::close;
-use command_rules::{Place, Role};
+use command_semantics::{Place, Role};
 use device_list::Devices;
 use sector::Refusal;
 use words::Name;
@@ -35,7 +35,7 @@ fn take_top(held: &mut Devices, i: usize)
 /// allocator refuses room for what is left, and `JournalFull` for a snapshot where the journal of its volume has none, may
 /// come before `NotQuiet`.
 #[inline(never)]
-#[tactic(auto, unfolding(command_rules::specs::Removing::take_away), using(command_rules::proofs::Starving::changes_enter))]
+#[tactic(auto, unfolding(command_semantics::specs::Removing::take_away), using(command_semantics::proofs::Starving::changes_enter))]
 pub fn remove_device(held: &mut Devices, name: &Name) -> Result<(), Refusal>
     ensures done { Enters result (table_of held.old) (table_of held.new) (take_away name.now (table_of held.old)) }
     ensures ordered { IsOrderedFor name.now held.old }

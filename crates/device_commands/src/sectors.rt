@@ -1,11 +1,11 @@
 // Reading, writing and flushing origins and snapshots.
 ghost use Rattle.std.specs.Prelude.{◌≡◌, ◌⊎◌, ◌<◌, ◌≤◌, ◌*◌, length, true, Err, IfErr, IfOk};
 ghost use Rattle.sector.specs.declared.refusal.Refusal.TheVariants.{JournalFull};
-ghost use Rattle.command_rules.specs.Changes.{Serves};
-ghost use Rattle.command_rules.specs.Places.{IsPlaceIn, volume_at};
-ghost use Rattle.command_rules.specs.Sectors.{IsFlushStarved, IsInVolume, IsPartWritten, IsReadAsked, IsReadStarved, IsWriteStarved, flush, flushed_in, in_volume, read, read_in, write, written_in};
-ghost use Rattle.command_rules.specs.Starting.{asked_at, flush_asked, read_asked, write_asked};
-ghost use Rattle.command_rules.specs.declared.place.Place.TheVariants.{In};
+ghost use Rattle.command_semantics.specs.Changes.{Serves};
+ghost use Rattle.command_semantics.specs.Places.{IsPlaceIn, volume_at};
+ghost use Rattle.command_semantics.specs.Sectors.{IsFlushStarved, IsInVolume, IsPartWritten, IsReadAsked, IsReadStarved, IsWriteStarved, flush, flushed_in, in_volume, read, read_in, write, written_in};
+ghost use Rattle.command_semantics.specs.Starting.{asked_at, flush_asked, read_asked, write_asked};
+ghost use Rattle.command_semantics.specs.declared.place.Place.TheVariants.{In};
 ghost use Rattle.device_list.specs.Flights.{IsDenied};
 ghost use Rattle.device_list.specs.Tables.{StaysNamed, StaysSound, table_of};
 ghost use Rattle.device_commands.specs.Asked.{IsFullAt, IsFullFor};
@@ -15,7 +15,7 @@ ghost use Rattle.device_commands.specs.Order.{IsOrderedFor};
 ghost use Rattle.device_commands.specs.Ruled.{is_quiet_in, is_sound_in, volume_for};
 
 use crate::order::find_in_order;
-use command_rules::{Place, Role};
+use command_semantics::{Place, Role};
 use device_list::{Devices, find_device};
 use device_stacks::{some_sectors, whole_sectors};
 use plain_machine::Replied;
@@ -56,7 +56,7 @@ fn read_at(
 /// has taken too many, and what its devices answer. Devices are met also where they answer with an error; `NoMemory`, and
 /// `JournalFull` where the volume's journal has no room for a piece, may come before and after that. Requests that are in flight
 /// may end in it: their replies go to the end of `ended`.
-#[tactic(auto, unfolding(command_rules::specs::Starting::read_asked, command_rules::specs::Starting::asked_by, command_rules::specs::Sectors::read, command_rules::specs::Sectors::IsReadStarved, crate::specs::Devices::KeepsOthers))]
+#[tactic(auto, unfolding(command_semantics::specs::Starting::read_asked, command_semantics::specs::Starting::asked_by, command_semantics::specs::Sectors::read, command_semantics::specs::Sectors::IsReadStarved, crate::specs::Devices::KeepsOthers))]
 pub fn read_device(
     alloc: Global,
     held: &mut Devices,
@@ -118,7 +118,7 @@ fn write_at(
 /// merged, `TooMany` where the volume has taken too many, and what its devices answer. `NoMemory` and `JournalFull` may come
 /// where some first pieces were written. Requests that are in flight may end in it: their replies go to the end of `ended`. The
 /// bytes are lent: many of them leave their memory to the caller.
-#[tactic(auto, unfolding(command_rules::specs::Starting::write_asked, command_rules::specs::Starting::asked_by, command_rules::specs::Sectors::write, command_rules::specs::Sectors::IsWriteStarved, crate::specs::Devices::KeepsOthers))]
+#[tactic(auto, unfolding(command_semantics::specs::Starting::write_asked, command_semantics::specs::Starting::asked_by, command_semantics::specs::Sectors::write, command_semantics::specs::Sectors::IsWriteStarved, crate::specs::Devices::KeepsOthers))]
 pub fn write_device(
     alloc: Global,
     held: &mut Devices,
@@ -175,7 +175,7 @@ fn flush_at(
 /// the volume has taken too many, `JournalFull` and what its devices answer; `NoMemory` may come before that, where
 /// something is in flight. Requests that are in flight may end in it: their replies go to the end of `ended`.
 #[inline(never)]
-#[tactic(auto, unfolding(command_rules::specs::Starting::flush_asked, command_rules::specs::Starting::asked_by, command_rules::specs::Sectors::flush, command_rules::specs::Sectors::IsFlushStarved, crate::specs::Devices::KeepsOthers))]
+#[tactic(auto, unfolding(command_semantics::specs::Starting::flush_asked, command_semantics::specs::Starting::asked_by, command_semantics::specs::Sectors::flush, command_semantics::specs::Sectors::IsFlushStarved, crate::specs::Devices::KeepsOthers))]
 pub fn flush_device(
     held: &mut Devices,
     name: &Name,

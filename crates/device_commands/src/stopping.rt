@@ -1,9 +1,9 @@
 // A volume is stopped: it ends with its snapshots, whatever is in flight in it.
 ghost use Rattle.std.specs.Prelude.{◌≡◌, ◌≤◌, ◌<◌, ◌+◌, ◌++◌, OnErr, OnOk, length, vec_len, vec_capacity};
-ghost use Rattle.command_rules.specs.Changes.{Changes};
-ghost use Rattle.command_rules.specs.Events.{origin_by};
-ghost use Rattle.command_rules.specs.Losing.{StopsLosing};
-ghost use Rattle.command_rules.specs.Stopping.{volume_stopped};
+ghost use Rattle.command_semantics.specs.Changes.{Changes};
+ghost use Rattle.command_semantics.specs.Events.{origin_by};
+ghost use Rattle.command_semantics.specs.Losing.{StopsLosing};
+ghost use Rattle.command_semantics.specs.Stopping.{volume_stopped};
 ghost use Rattle.device_list.specs.Tables.{StaysNamed, StaysSound, table_of};
 ghost use Rattle.device_commands.specs.Devices.{NeedsOrigin};
 ghost use Rattle.device_commands.specs.Stopping.{AreFreedLost, IsLeftDurable, IsLeftDurableOf, StopsLosingAt, stopped_at};
@@ -47,7 +47,7 @@ fn stop_at(held: &mut Devices, v: usize) -> Result<(), Refusal>
 /// requests in flight are forgotten, and get no reply. Nothing uses its disks and layers any more; their bytes and layers stay,
 /// and the stale marks of these disks are forgotten. In this order: `NoSuchDevice` for a name that no device has, `BadTable` for
 /// a device that is no origin, `NoMemory` where the allocator refuses room for what is left. A refusal changes nothing.
-#[tactic(auto, unfolding(command_rules::specs::Events::origin_by, command_rules::specs::Stopping::volume_stopped))]
+#[tactic(auto, unfolding(command_semantics::specs::Events::origin_by, command_semantics::specs::Stopping::volume_stopped))]
 pub fn stop_device(held: &mut Devices, name: &Name) -> Result<(), Refusal>
     ensures asks { NeedsOrigin name.now held.old result }
     ensures done { Changes result (table_of held.old) (table_of held.new) (volume_stopped name.now (table_of held.old)) }
@@ -90,7 +90,7 @@ fn lose_at(held: &mut Devices, v: usize) -> Result<(), Refusal>
 
 /// `stop VOL lose`: the volume is stopped as by `stop VOL`, with the same refusals, and then its disks lose what was not flushed:
 /// each of their sectors goes back to its value at its disk's last flush. All other disks stay as they are.
-#[tactic(auto, unfolding(command_rules::specs::Events::origin_by, command_rules::specs::Stopping::volume_stopped))]
+#[tactic(auto, unfolding(command_semantics::specs::Events::origin_by, command_semantics::specs::Stopping::volume_stopped))]
 #[inline(never)]
 pub fn stop_losing(held: &mut Devices, name: &Name) -> Result<(), Refusal>
     ensures asks { NeedsOrigin name.now held.old result }

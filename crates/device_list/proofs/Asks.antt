@@ -5,12 +5,12 @@ use Rattle.sector.specs.declared.refusal.Refusal.{Refusal}
 use Rattle.sector.specs.declared.refusal.Refusal.TheVariants.{JournalFull, NoMemory, OutOfRange}
 use Rattle.chunk.specs.Pieces.{Span}
 use Rattle.plain_machine.specs.declared.request.Dev.{Dev}
-use Rattle.big_steps.specs.Devices.{sectors_of as size_of}
-use Rattle.big_steps.specs.Snaps.{Volume as Settled}
-use Rattle.command_rules.specs.declared.place.Role.{Role}
-use Rattle.command_rules.specs.State.{Volume}
-use Rattle.command_rules.specs.Raw.{fits}
-use Rattle.command_rules.specs.Sectors.{Asked, dev_of, serves, takes, asked_of}
+use Rattle.whole_commands.specs.Devices.{sectors_of as size_of}
+use Rattle.whole_commands.specs.Snaps.{Volume as Settled}
+use Rattle.command_semantics.specs.declared.place.Role.{Role}
+use Rattle.command_semantics.specs.State.{Volume}
+use Rattle.command_semantics.specs.Raw.{fits}
+use Rattle.command_semantics.specs.Sectors.{Asked, dev_of, serves, takes, asked_of}
 
 module _ (role : Role) (first count : ℕ) (v : Volume) (state : Settled) (same : v.state ≡ state) where
   -- the role takes no request

@@ -10,8 +10,8 @@ use Rattle.sector.specs.declared.refusal.Refusal.{Refusal}
 use Rattle.sector.specs.declared.refusal.Refusal.TheVariants.{Invalid, NotQuiet, MergeInProgress}
 use Rattle.layers.specs.declared.stack.Stack.{Stack}
 use Rattle.layers.specs.Stack.{stack_contents, stack_layers}
-use Rattle.big_steps.specs.Attaching.{detached}
-use Rattle.big_steps.specs.Merges.{Merged, begun as begun_in_big_steps, merge_of, snap_named}
+use Rattle.whole_commands.specs.Attaching.{detached}
+use Rattle.whole_commands.specs.Merges.{Merged, begun as begun_in_big_steps, merge_of, snap_named}
 use Rattle.snapshot.specs.Kept.{Kept}
 use Rattle.snapshot_list.specs.Finding.{place_of_snap}
 use Rattle.snapshot_list.proofs.Finds.{position_none}
@@ -23,8 +23,8 @@ use Rattle.volume_commands.specs.Flying.{IsWhole}
 use Rattle.volume_commands.specs.Merging.{IsAlike, IsBegunAs}
 use Rattle.volume_commands.proofs.Leaves.{at_place as first_at}
 use Rattle.volume_commands.specs.Rested.{Attached, Rested, attached_of, is_loud_in, snap_at as first_snap}
-use Rattle.command_rules.specs.State.{Names, Volume}
-use Rattle.command_rules.specs.Merging.{begun}
+use Rattle.command_semantics.specs.State.{Names, Volume}
+use Rattle.command_semantics.specs.Merging.{begun}
 use Rattle.device_list.specs.Held.{flying_in, merged_inside, merging_with, settled_in, with_names}
 use Rattle.device_list.proofs.Merges.{merge_by}
 use Rattle.device_list.proofs.Places.{at_place, stack_snap}

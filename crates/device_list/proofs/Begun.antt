@@ -4,13 +4,13 @@ use Rattle.std.specs.Prelude.{is_some, nat_lt, slice_get, sum_by}
 use Rattle.std.specs.List.{remove}
 use Rattle.std.proofs.lemmas.List.Sums.{sum_by-remove}
 use Rattle.std.proofs.lemmas.Option.{get_or_from_slice_get}
-use Rattle.command_rules.specs.Naming.{merging_sum, names_sum, volume_sum}
+use Rattle.command_semantics.specs.Naming.{merging_sum, names_sum, volume_sum}
 use Rattle.device_list.proofs.Merges.{names_are}
 use Rattle.layers.specs.declared.stack.Stack.{Stack}
 use Rattle.merge.specs.Merging.{Merging}
 use Rattle.volume.specs.Asking.{merging_number}
 use Rattle.volume_commands.specs.Rested.{Attached, Rested}
-use Rattle.command_rules.specs.State.{Names}
+use Rattle.command_semantics.specs.State.{Names}
 use Rattle.device_list.specs.Parting.{Parts, named_with, parts_sum, place_begun}
 use Rattle.device_list.specs.Stopping.{earlier, earlier_than}
 

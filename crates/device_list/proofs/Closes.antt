@@ -7,7 +7,7 @@ use Rattle.sector.specs.declared.refusal.Refusal.TheVariants.{Busy, NotQuiet}
 use Rattle.layers.specs.declared.stack.Stack.{Stack}
 use Rattle.volume.specs.Leaving.{is_quiet_of}
 use Rattle.volume_commands.specs.Rested.{Rested}
-use Rattle.command_rules.specs.State.{Names}
+use Rattle.command_semantics.specs.State.{Names}
 use Rattle.device_list.specs.Held.{merging_with}
 use Rattle.device_list.proofs.Merges.{begun_too, merge_by, no_names}
 

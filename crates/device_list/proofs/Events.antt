@@ -10,7 +10,7 @@ use Rattle.plain_machine.specs.declared.event.Event.{Event}
 use Rattle.plain_machine.specs.declared.event.Outcome.{Outcome}
 use Rattle.plain_machine.specs.declared.event.NotDue.{NotDue}
 use Rattle.plain_machine.specs.Legal.{IsLegalStep}
-use Rattle.big_steps.specs.Refusals.{IsStarved}
+use Rattle.whole_commands.specs.Refusals.{IsStarved}
 use Rattle.volume.specs.Volumed.{is_due_of, is_loud_in_all, plain_of}
 use Rattle.volume.specs.Causes.{HasCause, IsOneAtMost}
 use Rattle.volume.specs.Closing.{ClosesBy}
@@ -26,8 +26,8 @@ use Rattle.volume_commands.specs.Rested.{Rested, rested_of}
 use Rattle.volume_commands.specs.Flying.{IsWhole}
 use Rattle.volume_commands.specs.AtRest.{AreReadAtRest, AreWrittenAtRest, IsFlushDone, IsFlushUndone, IsReadUndone, IsWriteCut}
 use Rattle.volume_commands.specs.Among.{AreReadAmong, AreWrittenAmong, IsFlushedAmong, IsFlushRefusedAmong, IsReadRefusedAmong, IsWriteRefusedAmong, pieces_among}
-use Rattle.command_rules.specs.State.{Volume, merge_in}
-use Rattle.command_rules.specs.Sectors.{Asked}
+use Rattle.command_semantics.specs.State.{Volume, merge_in}
+use Rattle.command_semantics.specs.Sectors.{Asked}
 use Rattle.device_list.specs.Held.{flying_in, merged_inside, settled_in}
 use Rattle.device_list.specs.Backed.{Backed, InBacked}
 use Rattle.device_list.specs.Flights.{ClosesFor, Declines, FlushesAmong, FlushesAtRest, IsBehind, IsEventDone, ReadsAmong, ReadsAtRest, Starts, WritesAmong, WritesAtRest}

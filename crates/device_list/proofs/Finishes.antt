@@ -8,19 +8,19 @@ use Rattle.device.specs.Layers.{is_loud}
 use Rattle.layers.specs.declared.stack.Stack.{Stack}
 use Rattle.layers.specs.Stack.{stack_contents, stack_layers}
 use Rattle.snapshot.specs.declared.opening.StoreDev.{StoreDev}
-use Rattle.big_steps.specs.Snaps.{Volume as Settled}
-use Rattle.big_steps.specs.Attaching.{Store}
-use Rattle.big_steps.specs.Merges.{Merge, Finished, finished as finished_in_big_steps, finished_by as finished_in_big_steps_by, pairs_in}
-use Rattle.big_steps.specs.Refusals.{is_starved}
+use Rattle.whole_commands.specs.Snaps.{Volume as Settled}
+use Rattle.whole_commands.specs.Attaching.{Store}
+use Rattle.whole_commands.specs.Merges.{Merge, Finished, finished as finished_in_big_steps, finished_by as finished_in_big_steps_by, pairs_in}
+use Rattle.whole_commands.specs.Refusals.{is_starved}
 use Rattle.merge.specs.Due.{is_finished_of}
 use Rattle.merge.specs.Merging.{Merging}
 use Rattle.volume_commands.specs.Merging.{IsTakenOutAs, IsUnfinished}
 use Rattle.volume_commands.specs.Rested.{Rested}
 use Rattle.volume.specs.Finishing.{finish_with}
 use Rattle.volume.specs.Volumed.{is_loud_with}
-use Rattle.command_rules.specs.Stacks.{device_of}
-use Rattle.command_rules.specs.State.{Stacked, Names, Volume}
-use Rattle.command_rules.specs.Merging.{finished}
+use Rattle.command_semantics.specs.Stacks.{device_of}
+use Rattle.command_semantics.specs.State.{Stacked, Names, Volume}
+use Rattle.command_semantics.specs.Merging.{finished}
 use Rattle.device_list.specs.Held.{merged_inside, merging_with, settled_in, with_names, IsSettledIn}
 use Rattle.device_list.proofs.Merges.{merge_by}
 

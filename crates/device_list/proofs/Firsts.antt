@@ -4,10 +4,10 @@ use Rattle.std.specs.Prelude.{Option, is_some, not}
 use Rattle.std.specs.List.{position, position_or_len}
 use Rattle.std.proofs.lemmas.List.{drop_more}
 use Rattle.std.proofs.lemmas.List.Sums.{prefix_len-drop_all}
-use Rattle.command_rules.specs.declared.place.Place.TheVariants.{In}
-use Rattle.command_rules.specs.declared.place.Role.{Role}
-use Rattle.command_rules.specs.Places.{in_first, in_volume, named_in, place_among, role_of}
-use Rattle.command_rules.specs.State.{Volume}
+use Rattle.command_semantics.specs.declared.place.Place.TheVariants.{In}
+use Rattle.command_semantics.specs.declared.place.Role.{Role}
+use Rattle.command_semantics.specs.Places.{in_first, in_volume, named_in, place_among, role_of}
+use Rattle.command_semantics.specs.State.{Volume}
 use Rattle.device_list.specs.Backed.{Backed}
 use Rattle.device_list.proofs.Showing.{position_shown, shown_in, shown_there}
 

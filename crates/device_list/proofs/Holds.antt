@@ -6,7 +6,7 @@ use Rattle.layers.specs.declared.stack.Stack.{Stack}
 use Rattle.layers.specs.Stack.{stack_layers, stack_size}
 use Rattle.volume_commands.specs.Rested.{Rested, Attached, numbers_of}
 use Rattle.volume_commands.specs.Kept.{KeepsDevices}
-use Rattle.command_rules.specs.State.{Names}
+use Rattle.command_semantics.specs.State.{Names}
 use Rattle.device_list.specs.Held.{IsHeld}
 use Rattle.device_list.proofs.Merges.{still_begun}
 

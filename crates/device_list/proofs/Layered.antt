@@ -4,11 +4,11 @@ use Rattle.std.specs.Prelude.{Ok, Result}
 use Rattle.std.proofs.lemmas.List.{append-nil, drop_all, drop_more}
 use Rattle.sector.specs.declared.refusal.Refusal.{Refusal}
 use Rattle.layers.specs.declared.stack.Stack.{Stack}
-use Rattle.big_steps.specs.Devices.{Device}
-use Rattle.big_steps.specs.Snaps.{Snap}
+use Rattle.whole_commands.specs.Devices.{Device}
+use Rattle.whole_commands.specs.Snaps.{Snap}
 use Rattle.volume_commands.specs.Rested.{Rested}
-use Rattle.command_rules.specs.Messages.{snap_at}
-use Rattle.command_rules.specs.State.{Names, Volume}
+use Rattle.command_semantics.specs.Messages.{snap_at}
+use Rattle.command_semantics.specs.State.{Names, Volume}
 use Rattle.volume_trace.specs.Layers.{layers_text}
 use Rattle.device_list.specs.Held.{settled_in}
 use Rattle.device_list.specs.Layers.{snapshot_layers, store_layers, stores_from}

@@ -4,14 +4,14 @@ use Rattle.std.specs.Prelude.{Ok, Result}
 use Rattle.std.proofs.lemmas.List.{append-nil, drop_all, drop_more}
 use Rattle.sector.specs.declared.refusal.Refusal.{Refusal}
 use Rattle.layers.specs.declared.stack.Stack.{Stack}
-use Rattle.big_steps.specs.Devices.{Device}
-use Rattle.big_steps.specs.Snaps.{Snap}
+use Rattle.whole_commands.specs.Devices.{Device}
+use Rattle.whole_commands.specs.Snaps.{Snap}
 use Rattle.table.specs.declared.lines.Line.{Line}
 use Rattle.volume_commands.specs.Rested.{Attached, Rested}
-use Rattle.command_rules.specs.Lines.{snapshot_line}
-use Rattle.command_rules.specs.Listing.{device_item, snapshot_items, snapshots_from, stack_items, store_items}
-use Rattle.command_rules.specs.Messages.{snap_at}
-use Rattle.command_rules.specs.State.{Names, Volume}
+use Rattle.command_semantics.specs.Lines.{snapshot_line}
+use Rattle.command_semantics.specs.Listing.{device_item, snapshot_items, snapshots_from, stack_items, store_items}
+use Rattle.command_semantics.specs.Messages.{snap_at}
+use Rattle.command_semantics.specs.State.{Names, Volume}
 use Rattle.device_list.specs.Held.{settled_in}
 use Rattle.device_list.proofs.Places.{at_place, stack_snap}
 

@@ -11,18 +11,18 @@ use Rattle.sector.specs.declared.refusal.Refusal.TheVariants.{Invalid}
 use Rattle.device.specs.Layers.{is_loud}
 use Rattle.layers.specs.declared.stack.Stack.{Stack}
 use Rattle.layers.specs.Stack.{stack_contents, stack_layers}
-use Rattle.store_bytes.specs.Pairs.{pairs_of}
+use Rattle.cow_format.specs.Pairs.{pairs_of}
 use Rattle.table.specs.declared.runs.Run.{Run}
 use Rattle.table.specs.Runs.{pair_at, pairs_from, runs_after}
-use Rattle.big_steps.specs.Devices.{Device, sectors_of as size_of}
+use Rattle.whole_commands.specs.Devices.{Device, sectors_of as size_of}
 use Rattle.merge.specs.Merging.{Merging}
 use Rattle.snapshot.specs.Kept.{Kept}
 use Rattle.volume.specs.Volumed.{is_loud_with}
 use Rattle.volume_commands.specs.Flying.{IsWhole}
 use Rattle.volume_commands.specs.Rested.{Attached, Rested, attached_of, is_loud_in}
-use Rattle.command_rules.specs.State.{Volume}
-use Rattle.command_rules.specs.Mapping.{map_at_place, pairs_text, snapshot_map}
-use Rattle.command_rules.specs.Messages.{snap_at}
+use Rattle.command_semantics.specs.State.{Volume}
+use Rattle.command_semantics.specs.Mapping.{map_at_place, pairs_text, snapshot_map}
+use Rattle.command_semantics.specs.Messages.{snap_at}
 use Rattle.device_list.specs.Held.{settled_in}
 use Rattle.device_list.specs.Mapping.{kept_map, kept_map_if}
 use Rattle.device_list.proofs.Places.{at_place, stack_snap}

@@ -10,19 +10,19 @@ use Rattle.layers.specs.Stack.{stack_contents, stack_layers}
 use Rattle.layers.specs.Beneath.{stack_reads}
 use Rattle.snapshot.specs.declared.opening.StoreDev.{StoreDev}
 use Rattle.store.specs.Reading.{layers_read, AreRead}
-use Rattle.big_steps.specs.Snaps.{Volume as Settled}
+use Rattle.whole_commands.specs.Snaps.{Volume as Settled}
 use Rattle.plain_machine.specs.Plain.{overflow_of}
-use Rattle.big_steps.specs.Refusals.{is_starved}
-use Rattle.big_steps.specs.Attaching.{Store, attached, refused_attach}
+use Rattle.whole_commands.specs.Refusals.{is_starved}
+use Rattle.whole_commands.specs.Attaching.{Store, attached, refused_attach}
 use Rattle.volume.specs.Volumed.{Volumed}
 use Rattle.volume.specs.Leaving.{is_quiet_of}
 use Rattle.volume.specs.Taking.{taking_refusal, attach_refusal, IsNotTaken}
-use Rattle.command_rules.specs.Stacks.{device_of}
-use Rattle.command_rules.specs.State.{Stacked, Names, Volume}
-use Rattle.command_rules.specs.Messages.{with_device}
+use Rattle.command_semantics.specs.Stacks.{device_of}
+use Rattle.command_semantics.specs.State.{Stacked, Names, Volume}
+use Rattle.command_semantics.specs.Messages.{with_device}
 use Rattle.chunk.specs.Sizes.{is_chunk}
 use Rattle.store.specs.Opening.{IsRefused}
-use Rattle.command_rules.specs.Snapshots.{meet, attached_to, kept_out, store_of}
+use Rattle.command_semantics.specs.Snapshots.{meet, attached_to, kept_out, store_of}
 
 -- it was taken
 pub met : (name : List ℕ) (chunk : ℕ) (overflow : Bool) (stacked : Stacked) (volume : Volume) (snaps : List Names) (state : Settled) (given number : ℕ) (sound : Bool) → is_some volume.merging ≡ false → number ≡ volume.given + 1 → attached number chunk (overflow_of overflow) (store_of stacked) volume.state ≡ record { volume = state; refused = None; back = None } → snaps ≡ volume.snaps ++ (record { snapshot = name; store = stacked.names; overflow = overflow }) ∷ [] → given ≡ number → sound ≡ (volume.sound && is_loud stacked.device.layers) → ((meet name chunk overflow stacked volume).refused ≡ None) × ((meet name chunk overflow stacked volume).volume ≡ record volume { snaps = snaps; state = state; given = given; sound = sound })

@@ -3,15 +3,15 @@ use Rattle.std.proofs.Common.{◌≡◌, ℕ, true, false, refl, sym, ap, ◌∙
 use Rattle.std.specs.Prelude.{Option, Some, None, IfSome, is_some}
 use Rattle.layers.specs.declared.stack.Stack.{Stack}
 use Rattle.layers.specs.Stack.{stack_contents, stack_layers}
-use Rattle.big_steps.specs.Merges.{Merge, Merged}
+use Rattle.whole_commands.specs.Merges.{Merge, Merged}
 use Rattle.event_machine.specs.MergeRest.{merge_in as machine_merge_in}
 use Rattle.event_machine.specs.MergeSeen.{held_in}
 use Rattle.merge.specs.Merging.{Merging}
 use Rattle.volume.specs.Asking.{merging_number}
 use Rattle.volume.specs.Moved.{merge_seen}
 use Rattle.volume_commands.specs.Rested.{Rested}
-use Rattle.command_rules.specs.Stacks.{device_of}
-use Rattle.command_rules.specs.State.{Names, Merging as Named, merge_in, names_in, with_merge}
+use Rattle.command_semantics.specs.Stacks.{device_of}
+use Rattle.command_semantics.specs.State.{Names, Merging as Named, merge_in, names_in, with_merge}
 use Rattle.device_list.specs.Held.{merged_inside, merging_with, settled_in, with_names}
 
 -- a merge of the volume of events, as the settled machine has it

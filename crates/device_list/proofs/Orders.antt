@@ -3,12 +3,12 @@ use Rattle.std.proofs.Common.{◌≡◌, ◌<◌, List, length, map, sym, ◌∙
 use Rattle.std.specs.Prelude.{Option, AllPairs, is_some}
 use Rattle.std.proofs.lemmas.List.{length-map}
 use Rattle.layers.specs.declared.stack.Stack.{Stack}
-use Rattle.big_steps.specs.Snaps.{Snap}
-use Rattle.big_steps.specs.Merges.{Merge, Merged}
+use Rattle.whole_commands.specs.Snaps.{Snap}
+use Rattle.whole_commands.specs.Merges.{Merge, Merged}
 use Rattle.volume.proofs.Relayered.{map_twice}
 use Rattle.volume_commands.specs.Rested.{Rested, numbers_of}
 use Rattle.volume_commands.specs.Ordered.{IsOrdered}
-use Rattle.command_rules.specs.State.{Names, merge_in}
+use Rattle.command_semantics.specs.State.{Names, merge_in}
 use Rattle.device_list.specs.Held.{merged_inside, merging_with, settled_in}
 use Rattle.device_list.proofs.Merges.{merge_is}
 use Rattle.device_list.proofs.Places.{stack_snap}

@@ -9,13 +9,13 @@ use Rattle.device.specs.Layers.{is_loud}
 use Rattle.layers.specs.declared.stack.Stack.{Stack}
 use Rattle.layers.specs.Stack.{stack_contents, stack_layers}
 use Rattle.snapshot.specs.declared.opening.StoreDev.{StoreDev}
-use Rattle.big_steps.specs.Attaching.{detached}
+use Rattle.whole_commands.specs.Attaching.{detached}
 use Rattle.volume_commands.specs.Rested.{Attached, Rested, snap_at as first_snap}
 use Rattle.volume_commands.specs.Leaving.{IsDetachedAs}
-use Rattle.command_rules.specs.Stacks.{device_of}
-use Rattle.command_rules.specs.State.{Stacked, Names, Volume}
-use Rattle.command_rules.specs.Origins.{still}
-use Rattle.command_rules.specs.Snapshots.{parted}
+use Rattle.command_semantics.specs.Stacks.{device_of}
+use Rattle.command_semantics.specs.State.{Stacked, Names, Volume}
+use Rattle.command_semantics.specs.Origins.{still}
+use Rattle.command_semantics.specs.Snapshots.{parted}
 use Rattle.device_list.specs.Held.{settled_in, IsSettledIn}
 use Rattle.device_list.proofs.Places.{here, at_place}
 use Rattle.volume.proofs.Shown.{loud_but}

@@ -8,11 +8,11 @@ use Rattle.std.proofs.lemmas.Option.{slice_get_read}
 use Rattle.layers.specs.declared.stack.Stack.{Stack}
 use Rattle.layers.specs.Stack.{stack_contents, stack_layers}
 use Rattle.plain_machine.specs.declared.request.Dev.TheVariants.{Snap as ToSnap}
-use Rattle.big_steps.specs.Snaps.{Snap}
+use Rattle.whole_commands.specs.Snaps.{Snap}
 use Rattle.volume_commands.specs.Rested.{Attached, Rested, snap_of, snap_at as first_snap, has_number}
-use Rattle.command_rules.specs.declared.place.Role.TheVariants.{Snapshot}
-use Rattle.command_rules.specs.Messages.{snap_at}
-use Rattle.command_rules.specs.Sectors.{dev_of}
+use Rattle.command_semantics.specs.declared.place.Role.TheVariants.{Snapshot}
+use Rattle.command_semantics.specs.Messages.{snap_at}
+use Rattle.command_semantics.specs.Sectors.{dev_of}
 use Rattle.device_list.specs.Held.{settled_in}
 
 -- an element at a place

@@ -5,8 +5,8 @@ use Rattle.std.specs.List.{list_all}
 use Rattle.std.proofs.lemmas.List.{length-map}
 use Rattle.device.specs.Layers.{is_loud}
 use Rattle.sector.specs.declared.refusal.Refusal.{Refusal}
-use Rattle.big_steps.specs.Devices.{Device}
-use Rattle.big_steps.specs.Snaps.{Volume as Settled}
+use Rattle.whole_commands.specs.Devices.{Device}
+use Rattle.whole_commands.specs.Snaps.{Volume as Settled}
 use Rattle.layers.specs.declared.stack.Stack.{Stack}
 use Rattle.layers.specs.Stack.{stack_contents, stack_layers, stack_size}
 use Rattle.layers.specs.Beneath.{stack_flushes}
@@ -15,8 +15,8 @@ use Rattle.volume.specs.Leaving.{is_quiet_of}
 use Rattle.volume.specs.Volumed.{is_loud_with}
 use Rattle.volume_commands.specs.Rested.{Rested, attached_of, is_loud_in, rested_of, snap_of}
 use Rattle.volume_commands.specs.Taking.{IsRefusedAt}
-use Rattle.command_rules.specs.Stacks.{device_of}
-use Rattle.command_rules.specs.State.{Names, Volume}
+use Rattle.command_semantics.specs.Stacks.{device_of}
+use Rattle.command_semantics.specs.State.{Names, Volume}
 use Rattle.device_list.specs.Held.{IsHeld, flying_in, merging_with, settled_in}
 
 -- an origin that a store was tried over is the same device

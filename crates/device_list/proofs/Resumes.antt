@@ -6,16 +6,16 @@ use Rattle.sector.specs.declared.refusal.Refusal.{Refusal}
 use Rattle.sector.specs.declared.refusal.Refusal.TheVariants.{NotMerging}
 use Rattle.layers.specs.declared.stack.Stack.{Stack}
 use Rattle.layers.specs.Stack.{stack_contents, stack_layers}
-use Rattle.big_steps.specs.Merges.{Merge, Merged, resumed as resumed_in_big_steps, resumed_by as resumed_in_big_steps_by}
+use Rattle.whole_commands.specs.Merges.{Merge, Merged, resumed as resumed_in_big_steps, resumed_by as resumed_in_big_steps_by}
 use Rattle.event_machine.specs.Held.{Moving}
 use Rattle.event_machine.specs.Merging.{resumed as machine_resumed}
 use Rattle.merge.specs.Merging.{Merging}
 use Rattle.volume.specs.Leaving.{is_quiet_of}
 use Rattle.volume_commands.specs.Flying.{flying_of}
 use Rattle.volume_commands.specs.Rested.{Rested}
-use Rattle.command_rules.specs.Changes.{Changes}
-use Rattle.command_rules.specs.State.{Names, Volume}
-use Rattle.command_rules.specs.Merging.{resumed}
+use Rattle.command_semantics.specs.Changes.{Changes}
+use Rattle.command_semantics.specs.State.{Names, Volume}
+use Rattle.command_semantics.specs.Merging.{resumed}
 use Rattle.device_list.specs.Held.{flying_in, merged_inside, merging_with, settled_in, with_names}
 use Rattle.device_list.proofs.Merges.{machine_merge, merge_by}
 

@@ -11,21 +11,21 @@ use Rattle.plain_machine.specs.declared.request.Reply.{Reply}
 use Rattle.plain_machine.specs.declared.request.Reply.TheVariants.{Data, Written, Flushed, Refused}
 use Rattle.plain_machine.specs.declared.request.Failure.{Failure}
 use Rattle.plain_machine.specs.declared.request.Failure.TheVariants.{Invalid, Io, Overflow}
-use Rattle.big_steps.specs.Merges.{Merged}
-use Rattle.big_steps.specs.Beside.{read_beside, written_beside, flushed_beside, written_first_beside, count_beside}
-use Rattle.big_steps.specs.Refusals.{is_starved}
+use Rattle.whole_commands.specs.Merges.{Merged}
+use Rattle.whole_commands.specs.Beside.{read_beside, written_beside, flushed_beside, written_first_beside, count_beside}
+use Rattle.whole_commands.specs.Refusals.{is_starved}
 use Rattle.volume_commands.specs.Rested.{Rested, has_dev}
 use Rattle.plain_machine.specs.Failures.{refusal_of}
 use Rattle.volume_commands.specs.Commands.{IsDoneBy, IsFlushRefused, IsReadRefused, IsWriteRefused}
 use Rattle.volume_commands.proofs.Unread.{read_leaves, refused_read_leaves}
-use Rattle.command_rules.specs.declared.place.Role.{Role}
-use Rattle.command_rules.specs.State.{Volume, merged_in}
-use Rattle.command_rules.specs.Changes.{Did, Serves}
-use Rattle.command_rules.specs.Sectors.{Asked, asked_of, after_asking, flush_by, flushed_in, read_answer, read_by, read_in, IsReadAsked, write_answer, write_by, written_in, ArePartWritten, IsPartWritten, IsPartWrittenBy}
+use Rattle.command_semantics.specs.declared.place.Role.{Role}
+use Rattle.command_semantics.specs.State.{Volume, merged_in}
+use Rattle.command_semantics.specs.Changes.{Did, Serves}
+use Rattle.command_semantics.specs.Sectors.{Asked, asked_of, after_asking, flush_by, flushed_in, read_answer, read_by, read_in, IsReadAsked, write_answer, write_by, written_in, ArePartWritten, IsPartWritten, IsPartWrittenBy}
 use Rattle.device_list.specs.Flights.{IsDenied}
 use Rattle.device_list.specs.Held.{merged_inside, IsSettledIn}
 use Rattle.device_list.proofs.Unflushed.{flush_leaves}
-use Rattle.big_steps.specs.Pieces.{Answered}
+use Rattle.whole_commands.specs.Pieces.{Answered}
 
 -- the same answer, and the same left
 did : {A T : Type 0} (a b : Result A Refusal) (x y : T) → a ≡ b → x ≡ y → (let d : Did A T = record { answer = a; left = x } in d) ≡ record { answer = b; left = y }

@@ -13,7 +13,7 @@ use Rattle.plain_machine.specs.declared.event.NotDue.{NotDue}
 use Rattle.plain_machine.specs.declared.event.Outcome.{Outcome}
 use Rattle.layers.specs.declared.stack.Stack.{Stack}
 use Rattle.volume.specs.Volumed.{Volumed}
-use Rattle.command_rules.specs.State.{Volume}
+use Rattle.command_semantics.specs.State.{Volume}
 use Rattle.device_list.specs.Backed.{Backed, InBacked, IsNotDueIn}
 use Rattle.device_list.specs.Flights.{InEvents, IsEventDone, IsNotDue, IsStepped}
 

@@ -12,7 +12,7 @@ use Rattle.plain_machine.specs.Plain.{did_overflow}
 use Rattle.table.specs.declared.status.StatusState.{StatusState}
 use Rattle.table.specs.declared.status.StatusState.TheVariants.{Invalid, Overflow, Used}
 use Rattle.table.specs.Lines.{snapshot_text}
-use Rattle.big_steps.specs.Devices.{sectors_of as size_of}
+use Rattle.whole_commands.specs.Devices.{sectors_of as size_of}
 use Rattle.event_machine.specs.Held.{SnapHeld, Moving}
 use Rattle.snapshot.specs.Kept.{Kept}
 use Rattle.volume.specs.Leaving.{is_quiet_of}
@@ -20,10 +20,10 @@ use Rattle.volume.specs.Moved.{held_of}
 use Rattle.volume_commands.specs.Flying.{IsWhole, flying_of, without_store}
 use Rattle.volume_commands.specs.Rested.{Attached, Rested, attached_of}
 use Rattle.volume_commands.specs.Using.{IsInUse}
-use Rattle.command_rules.specs.declared.place.Role.TheVariants.{Origin, Merging, Snapshot}
-use Rattle.command_rules.specs.State.{Volume}
-use Rattle.command_rules.specs.Messages.{snap_at}
-use Rattle.command_rules.specs.Status.{status_in}
+use Rattle.command_semantics.specs.declared.place.Role.TheVariants.{Origin, Merging, Snapshot}
+use Rattle.command_semantics.specs.State.{Volume}
+use Rattle.command_semantics.specs.Messages.{snap_at}
+use Rattle.command_semantics.specs.Status.{status_in}
 use Rattle.device_stacks.proofs.StackSizes.{size_of as size_of_stack}
 use Rattle.device_list.specs.Held.{flying_in, settled_in}
 use Rattle.device_list.specs.Status.{held_at, kept_held, state_kept, status_flying}

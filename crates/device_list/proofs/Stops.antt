@@ -7,7 +7,7 @@ use Rattle.std.proofs.lemmas.List.{at_drop_more, length-map}
 use Rattle.volume_commands.specs.Flying.{IsWhole}
 use Rattle.device_list.proofs.Places.{here}
 use Rattle.layers.specs.declared.stack.Stack.{Stack}
-use Rattle.big_steps.specs.Snaps.{Snap, Volume as Settled}
+use Rattle.whole_commands.specs.Snaps.{Snap, Volume as Settled}
 use Rattle.volume_commands.specs.Rested.{Attached, Rested, attached_of, snap_of, is_loud_in}
 use Rattle.layers.specs.Stack.{stack_contents, stack_durable, stack_layers, stack_size}
 use Rattle.layers.specs.Whole.{stack_whole}
@@ -19,14 +19,14 @@ use Rattle.volume.specs.Asking.{merging_number}
 use Rattle.device.specs.Layers.{Layer, is_loud}
 use Rattle.volume.specs.Volumed.{is_loud_with}
 use Rattle.volume.proofs.Shown.{and_left, and_right}
-use Rattle.command_rules.specs.Losing.{Lasting, lasting}
-use Rattle.command_rules.specs.Sound.{is_sound_stack}
-use Rattle.command_rules.specs.Stacks.{device_of}
-use Rattle.command_rules.specs.Stopping.{freed, store_freed, merging_freed, snap_stores, stores_among, stores_left, stopped}
+use Rattle.command_semantics.specs.Losing.{Lasting, lasting}
+use Rattle.command_semantics.specs.Sound.{is_sound_stack}
+use Rattle.command_semantics.specs.Stacks.{device_of}
+use Rattle.command_semantics.specs.Stopping.{freed, store_freed, merging_freed, snap_stores, stores_among, stores_left, stopped}
 use Rattle.volume.specs.Stopped.{stores_by, devices_of}
 use Rattle.device_list.specs.Held.{merging_with, with_names, settled_in}
 use Rattle.device_list.proofs.Merges.{merge_by, begun_too}
-use Rattle.command_rules.specs.State.{Stacked, Names, Merging as Begun, Volume}
+use Rattle.command_semantics.specs.State.{Stacked, Names, Merging as Begun, Volume}
 use Rattle.device_list.specs.Stopping.{IsTakenLost, earlier, earlier_than, freed_by, names_among, names_with, store_names}
 
 -- the names of the merge come first where it stands after none, or no other is left

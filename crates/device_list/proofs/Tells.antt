@@ -7,16 +7,16 @@ use Rattle.layers.specs.Stack.{stack_contents, stack_layers}
 use Rattle.layers.specs.declared.message.Message.{Message}
 use Rattle.layers.specs.declared.message.Answer.{Answer}
 use Rattle.layers.specs.Messages.{Answered, Refused, told}
-use Rattle.big_steps.specs.Merges.{Merge, Merged}
-use Rattle.big_steps.specs.Snaps.{Volume as Settled}
+use Rattle.whole_commands.specs.Merges.{Merge, Merged}
+use Rattle.whole_commands.specs.Snaps.{Volume as Settled}
 use Rattle.volume_commands.specs.Rested.{Attached, Rested}
 use Rattle.volume_commands.specs.Telling.{IsMergingTold, IsMergingUntold, IsOriginTold, IsStoreTold, IsTellRefused, place_relayered}
-use Rattle.command_rules.specs.declared.place.Role.{Role}
-use Rattle.command_rules.specs.State.{Volume, merged_in, with_merged}
-use Rattle.command_rules.specs.Changes.{Steps}
-use Rattle.command_rules.specs.Messages.{told_in, told_under, told_snap, told_store, told_role, told_mounted, told_beside, told_merge, told_merging}
+use Rattle.command_semantics.specs.declared.place.Role.{Role}
+use Rattle.command_semantics.specs.State.{Volume, merged_in, with_merged}
+use Rattle.command_semantics.specs.Changes.{Steps}
+use Rattle.command_semantics.specs.Messages.{told_in, told_under, told_snap, told_store, told_role, told_mounted, told_beside, told_merge, told_merging}
 use Rattle.device_list.specs.Held.{merged_inside, settled_in}
-use Rattle.command_rules.proofs.Begun.{merged_same}
+use Rattle.command_semantics.proofs.Begun.{merged_same}
 use Rattle.device_list.proofs.Merges.{machine_merge, merge_by}
 use Rattle.device_list.proofs.Places.{at_place}
 

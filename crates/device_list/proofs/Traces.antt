@@ -7,7 +7,7 @@ use Rattle.plain_machine.specs.declared.event.Event.{Event}
 use Rattle.layers.specs.Stack.{stack_contents, stack_layers}
 use Rattle.volume.specs.Volumed.{Volumed}
 use Rattle.counted_volume.specs.Trace.{IsAllDue}
-use Rattle.command_rules.specs.State.{Volume}
+use Rattle.command_semantics.specs.State.{Volume}
 use Rattle.volume_trace.specs.Trace.{trace_of}
 use Rattle.device_list.specs.Flights.{IsBehind}
 use Rattle.device_list.specs.Trace.{IsTraced, merge_text}

@@ -11,19 +11,19 @@ use Rattle.layers.specs.Beneath.{stack_flushes}
 use Rattle.plain_machine.specs.declared.request.Dev.{Dev}
 use Rattle.plain_machine.specs.declared.request.Dev.TheVariants.{Origin, Snap as ToSnap}
 use Rattle.plain_machine.specs.declared.request.Reply.{Reply}
-use Rattle.big_steps.specs.Devices.{Device, answers, met}
-use Rattle.big_steps.specs.Snaps.{Snap, Volume}
-use Rattle.big_steps.specs.Pieces.{Answered, flush_snap, in_snap}
-use Rattle.big_steps.specs.Commands.{flushed}
-use Rattle.big_steps.specs.Merges.{Merge, Merged, Merging, merged_of as with_merge, with_store, flushed_through}
+use Rattle.whole_commands.specs.Devices.{Device, answers, met}
+use Rattle.whole_commands.specs.Snaps.{Snap, Volume}
+use Rattle.whole_commands.specs.Pieces.{Answered, flush_snap, in_snap}
+use Rattle.whole_commands.specs.Commands.{flushed}
+use Rattle.whole_commands.specs.Merges.{Merge, Merged, Merging, merged_of as with_merge, with_store, flushed_through}
 use Rattle.event_machine.specs.MergeRest.{merge_in}
 use Rattle.event_machine.specs.MergeSeen.{held_in}
 use Rattle.merge.specs.Merging.{Merging as MergingStack}
 use Rattle.volume.specs.Moved.{merge_seen}
-use Rattle.big_steps.specs.Beside.{served_by, flushed_beside}
+use Rattle.whole_commands.specs.Beside.{served_by, flushed_beside}
 use Rattle.volume_commands.specs.Rested.{Attached, Rested, snap_of, merged_of, IsSettled}
 use Rattle.volume_commands.specs.Commands.{IsDoneBy}
-use Rattle.big_steps.specs.Saving.{Saving}
+use Rattle.whole_commands.specs.Saving.{Saving}
 
 -- no flush changes the device's layers
 abbrev IsStill : Device → Type 0

@@ -10,19 +10,19 @@ use Rattle.plain_machine.specs.Plain.{did_overflow}
 use Rattle.table.specs.declared.status.StatusState.{StatusState}
 use Rattle.table.specs.declared.status.StatusState.TheVariants.{Invalid, Failed, Overflow, Used}
 use Rattle.table.specs.Lines.{merge_text, origin_text, snapshot_text}
-use Rattle.big_steps.specs.Devices.{sectors_of as size_of}
-use Rattle.big_steps.specs.Snaps.{Snap}
+use Rattle.whole_commands.specs.Devices.{sectors_of as size_of}
+use Rattle.whole_commands.specs.Snaps.{Snap}
 use Rattle.volume_commands.specs.Rested.{Attached, Rested}
 use Rattle.volume_commands.specs.Using.{IsUsed}
-use Rattle.big_steps.specs.Merges.{Merge}
+use Rattle.whole_commands.specs.Merges.{Merge}
 use Rattle.merge.specs.Merging.{Merging}
 use Rattle.volume.specs.Asking.{merging_usage}
 use Rattle.volume.specs.Stepping.{has_failed}
-use Rattle.command_rules.specs.declared.place.Role.TheVariants.{Origin, Snapshot, Merging as Merging'}
-use Rattle.command_rules.specs.Stacks.{device_of}
-use Rattle.command_rules.specs.State.{Volume, Merging as Named}
-use Rattle.command_rules.specs.Messages.{snap_at}
-use Rattle.command_rules.specs.Status.{merge_state, state_of, state_at, status_in}
+use Rattle.command_semantics.specs.declared.place.Role.TheVariants.{Origin, Snapshot, Merging as Merging'}
+use Rattle.command_semantics.specs.Stacks.{device_of}
+use Rattle.command_semantics.specs.State.{Volume, Merging as Named}
+use Rattle.command_semantics.specs.Messages.{snap_at}
+use Rattle.command_semantics.specs.Status.{merge_state, state_of, state_at, status_in}
 use Rattle.device_stacks.proofs.StackSizes.{size_of as size_of_stack}
 use Rattle.device_list.specs.Held.{merged_inside, settled_in}
 use Rattle.device_list.proofs.Merges.{machine_merge, merge_by}

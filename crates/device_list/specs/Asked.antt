@@ -2,7 +2,7 @@
 use Rattle.std.specs.Prelude.{◌≡◌, ◌+◌, ◌*◌, Bool, true, nat_le, Result, IfErr}
 use Rattle.sector.specs.declared.refusal.Refusal.{Refusal}
 use Rattle.sector.specs.declared.refusal.Refusal.TheVariants.{JournalFull}
-use Rattle.command_rules.specs.State.{Volume}
+use Rattle.command_semantics.specs.State.{Volume}
 
 -- JournalFull comes to a volume only once it was asked for so many sectors, or so many snapshots were taken of it: each request takes
 -- a place of the journal, and each snapshot five at most.

@@ -8,9 +8,9 @@ use Rattle.layers.specs.Stack.{stack_contents, stack_layers}
 use Rattle.plain_machine.specs.declared.event.Event.{Event}
 use Rattle.plain_machine.specs.declared.request.Replied.{Replied}
 use Rattle.volume.specs.Volumed.{Volumed, is_due_of}
-use Rattle.command_rules.specs.Sectors.{asked_of}
-use Rattle.command_rules.specs.State.{Stacked, Volume}
-use Rattle.command_rules.specs.declared.place.Role.{Role}
+use Rattle.command_semantics.specs.Sectors.{asked_of}
+use Rattle.command_semantics.specs.State.{Stacked, Volume}
+use Rattle.command_semantics.specs.declared.place.Role.{Role}
 use Rattle.device_list.specs.Flights.{IsBehind}
 
 pub record Backed : Type 0 where

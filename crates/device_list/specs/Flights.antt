@@ -12,7 +12,7 @@ use Rattle.plain_machine.specs.declared.request.Request.{Request}
 use Rattle.plain_machine.specs.declared.request.Failure.{Failure}
 use Rattle.plain_machine.specs.Failures.{refusal_of}
 use Rattle.plain_machine.specs.Legal.{IsLegalStep}
-use Rattle.big_steps.specs.Refusals.{IsStarved, is_starved}
+use Rattle.whole_commands.specs.Refusals.{IsStarved, is_starved}
 use Rattle.in_flight.specs.Kinds.{in_flight}
 use Rattle.volume.specs.Volumed.{Volumed, is_due_of, is_loud_in_all, piece_with, plain_of}
 use Rattle.volume.specs.Causes.{HasCause, IsOneAtMost}
@@ -28,8 +28,8 @@ use Rattle.volume_commands.specs.Among.{IsRequestOf, AreReadAmong, AreWrittenAmo
 use Rattle.volume_commands.specs.AtRest.{AreReadAtRest, AreWrittenAtRest, IsFlushDone, IsFlushUndone, IsReadUndone, IsWriteCut}
 use Rattle.volume_commands.specs.Closing.{IsClosed}
 use Rattle.volume_commands.specs.Draining.{IsDrained}
-use Rattle.command_rules.specs.State.{Volume, merge_in}
-use Rattle.command_rules.specs.Sectors.{Asked}
+use Rattle.command_semantics.specs.State.{Volume, merge_in}
+use Rattle.command_semantics.specs.Sectors.{Asked}
 use Rattle.device_list.specs.Held.{flying_in, merged_inside, settled_in}
 
 -- A volume of events that stands behind a volume with names: the same devices, and the same in flight, and no more requests than

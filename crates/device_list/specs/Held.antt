@@ -3,13 +3,13 @@ use Rattle.std.specs.Prelude.{◌≡◌, ◌≤◌, ℕ, Bool, true, List, lengt
 use Rattle.layers.specs.declared.stack.Stack.{Stack}
 use Rattle.layers.specs.Stack.{stack_contents, stack_layers}
 use Rattle.event_machine.specs.Held.{Moving}
-use Rattle.big_steps.specs.Snaps.{Volume as Settled}
+use Rattle.whole_commands.specs.Snaps.{Volume as Settled}
 use Rattle.volume.specs.Volumed.{Volumed}
 use Rattle.volume.specs.Leaving.{is_quiet_of}
 use Rattle.volume_commands.specs.Flying.{flying_of}
 use Rattle.volume_commands.specs.Rested.{Rested, settled_of, merged_of, is_loud_in, IsSettled}
-use Rattle.big_steps.specs.Merges.{Merge, Merged}
-use Rattle.command_rules.specs.State.{Names, Merging}
+use Rattle.whole_commands.specs.Merges.{Merge, Merged}
+use Rattle.command_semantics.specs.State.{Names, Merging}
 
 -- the settled machine's volume of a volume over stacks
 abbrev pub settled_in : Rested Stack → Settled

@@ -2,9 +2,9 @@
 use Rattle.std.specs.Prelude.{ℕ, ◌+◌, List, [], ◌∷◌, ◌++◌, Option, Some, None, Result, Ok, Err}
 use Rattle.std.specs.List.{flat_map}
 use Rattle.sector.specs.declared.refusal.Refusal.{Refusal}
-use Rattle.big_steps.specs.Snaps.{Snap}
-use Rattle.command_rules.specs.State.{Stacked, Names, Merging as Begun, Volume, Table}
-use Rattle.command_rules.specs.Messages.{snap_at}
+use Rattle.whole_commands.specs.Snaps.{Snap}
+use Rattle.command_semantics.specs.State.{Stacked, Names, Merging as Begun, Volume, Table}
+use Rattle.command_semantics.specs.Messages.{snap_at}
 use Rattle.volume_trace.specs.Layers.{layers_text}
 
 -- those of the store of a snapshot that is there

@@ -5,13 +5,13 @@ use Rattle.layers.specs.declared.stack.Stack.{Stack}
 use Rattle.sector.specs.declared.refusal.Refusal.{Refusal}
 use Rattle.sector.specs.declared.refusal.Refusal.TheVariants.{BadTable, MergingSnapshot, NoSuchDevice}
 use Rattle.words.specs.Given.{Gives}
-use Rattle.big_steps.specs.Devices.{sectors_of}
+use Rattle.whole_commands.specs.Devices.{sectors_of}
 use Rattle.snapshot.specs.Kept.{Kept}
 use Rattle.volume.specs.Volumed.{Volumed}
-use Rattle.command_rules.specs.declared.place.Role.{Role}
-use Rattle.command_rules.specs.declared.place.Role.TheVariants.{Origin, Under, Snapshot, Store, Merging, MergingStore}
-use Rattle.command_rules.specs.State.{Volume}
-use Rattle.command_rules.specs.Mapping.{snapshot_map}
+use Rattle.command_semantics.specs.declared.place.Role.{Role}
+use Rattle.command_semantics.specs.declared.place.Role.TheVariants.{Origin, Under, Snapshot, Store, Merging, MergingStore}
+use Rattle.command_semantics.specs.State.{Volume}
+use Rattle.command_semantics.specs.Mapping.{snapshot_map}
 use Rattle.device_list.specs.Flights.{IsBehind}
 
 -- a snapshot with these pairs, and so on

@@ -2,8 +2,8 @@
 use Rattle.std.specs.Prelude.{◌≡◌, ◌+◌, Bool, true, List, ℕ, [], ◌∷◌, ◌++◌}
 use Rattle.std.specs.Prelude.{Some, None, Ok}
 use Rattle.std.specs.List.{remove}
-use Rattle.command_rules.specs.State.{Stacked, Names, Volume, names_in}
-use Rattle.command_rules.specs.Raw.{names_at}
+use Rattle.command_semantics.specs.State.{Stacked, Names, Volume, names_in}
+use Rattle.command_semantics.specs.Raw.{names_at}
 
 -- all names, marks and counts are as they were
 pub record KeepsNames (old new : Volume) : Type 0 where

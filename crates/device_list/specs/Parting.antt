@@ -6,8 +6,8 @@ use Rattle.layers.specs.Stack.{stack_layers}
 use Rattle.volume.specs.Asking.{merging_number}
 use Rattle.volume.specs.Leaving.{is_quiet_of}
 use Rattle.volume_commands.specs.Rested.{Rested, is_loud_in}
-use Rattle.command_rules.specs.Naming.{merging_sum, names_sum}
-use Rattle.command_rules.specs.State.{Names, Volume}
+use Rattle.command_semantics.specs.Naming.{merging_sum, names_sum}
+use Rattle.command_semantics.specs.State.{Names, Volume}
 use Rattle.device_list.specs.Backed.{Backed}
 use Rattle.device_list.specs.Held.{flying_in, merging_with, settled_in}
 use Rattle.device_list.specs.Stopping.{earlier_than}

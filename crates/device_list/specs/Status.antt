@@ -10,19 +10,19 @@ use Rattle.table.specs.declared.status.StatusState.{StatusState}
 use Rattle.table.specs.declared.status.StatusState.TheVariants.{Invalid, Overflow, Used}
 use Rattle.table.specs.Lines.{snapshot_text}
 use Rattle.plain_machine.specs.Plain.{did_overflow}
-use Rattle.big_steps.specs.Devices.{Device, sectors_of}
+use Rattle.whole_commands.specs.Devices.{Device, sectors_of}
 use Rattle.event_machine.specs.Held.{SnapHeld, Moving}
 use Rattle.snapshot.specs.Kept.{Kept}
 use Rattle.volume.specs.Moved.{held_of}
 use Rattle.volume.specs.Volumed.{Volumed}
 use Rattle.volume_commands.specs.Flying.{flying_of, without_store}
 use Rattle.volume_commands.specs.Rested.{Rested}
-use Rattle.command_rules.specs.declared.place.Role.{Role}
-use Rattle.command_rules.specs.declared.place.Role.TheVariants.{Origin, Under, Snapshot, Store, Merging, MergingStore}
-use Rattle.command_rules.specs.Stacks.{device_of}
-use Rattle.command_rules.specs.State.{Volume}
-use Rattle.command_rules.specs.Messages.{snap_at}
-use Rattle.command_rules.specs.Status.{status_in}
+use Rattle.command_semantics.specs.declared.place.Role.{Role}
+use Rattle.command_semantics.specs.declared.place.Role.TheVariants.{Origin, Under, Snapshot, Store, Merging, MergingStore}
+use Rattle.command_semantics.specs.Stacks.{device_of}
+use Rattle.command_semantics.specs.State.{Volume}
+use Rattle.command_semantics.specs.Messages.{snap_at}
+use Rattle.command_semantics.specs.Status.{status_in}
 use Rattle.device_list.specs.Flights.{IsBehind}
 
 -- What is used of a store: all up to the next place, and the header and the areas, which hold no copies.

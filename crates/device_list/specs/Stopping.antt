@@ -3,10 +3,10 @@ use Rattle.std.specs.Prelude.{◌≡◌, ℕ, zero, suc, nat_lt, List, [], ◌�
 use Rattle.layers.specs.declared.stack.Stack.{Stack}
 use Rattle.layers.specs.Stack.{stack_durable}
 use Rattle.volume_commands.specs.Rested.{Attached}
-use Rattle.command_rules.specs.Stacks.{device_of}
-use Rattle.command_rules.specs.State.{Stacked, Names}
-use Rattle.command_rules.specs.Losing.{lasting}
-use Rattle.command_rules.specs.Stopping.{freed}
+use Rattle.command_semantics.specs.Stacks.{device_of}
+use Rattle.command_semantics.specs.State.{Stacked, Names}
+use Rattle.command_semantics.specs.Losing.{lasting}
+use Rattle.command_semantics.specs.Stopping.{freed}
 use Rattle.device_list.specs.Backed.{Left}
 
 abbrev pub store_names : Names → List (List ℕ)

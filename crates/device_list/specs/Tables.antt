@@ -1,10 +1,10 @@
 -- The devices as contracts see them, and what calls leave of all of them.
 use Rattle.std.specs.Prelude.{◌≡◌, true, map, Option, IfSome}
-use Rattle.command_rules.specs.State.{Table}
-use Rattle.command_rules.specs.Naming.{AreNamed}
-use Rattle.command_rules.specs.Places.{IsPlaceIn}
-use Rattle.command_rules.specs.declared.place.Place.{Place}
-use Rattle.command_rules.specs.Sound.{is_sound}
+use Rattle.command_semantics.specs.State.{Table}
+use Rattle.command_semantics.specs.Naming.{AreNamed}
+use Rattle.command_semantics.specs.Places.{IsPlaceIn}
+use Rattle.command_semantics.specs.declared.place.Place.{Place}
+use Rattle.command_semantics.specs.Sound.{is_sound}
 use Rattle.device_list.specs.declared.held.Devices.{Devices}
 
 abbrev pub table_of : Devices → Table

@@ -5,8 +5,8 @@ use Rattle.layers.specs.Stack.{stack_contents, stack_layers}
 use Rattle.plain_machine.specs.declared.event.Event.{Event}
 use Rattle.volume.specs.Volumed.{Volumed}
 use Rattle.counted_volume.specs.Trace.{IsAllDue}
-use Rattle.command_rules.specs.State.{Merging as Begun, Volume}
-use Rattle.command_rules.specs.Status.{merge_state}
+use Rattle.command_semantics.specs.State.{Merging as Begun, Volume}
+use Rattle.command_semantics.specs.Status.{merge_state}
 use Rattle.volume_trace.specs.Merging.{merge_item}
 use Rattle.volume_trace.specs.Trace.{trace_of}
 use Rattle.device_list.specs.Flights.{IsBehind}

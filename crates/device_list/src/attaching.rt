@@ -2,8 +2,8 @@
 ghost use Rattle.std.specs.Prelude.{◌≡◌, ◌≢◌, ◌⊎◌, ◌&&◌, ◌<◌, true, false, length, Some, None, is_some, Ok, Err, IfOk, IfErr, OnOk, OnErr, if◌then◌else◌};
 ghost use Rattle.sector.specs.declared.refusal.Refusal.TheVariants.{JournalFull, Stale, MergeInProgress, NotQuiet};
 ghost use Rattle.device.specs.Layers.{is_loud};
-ghost use Rattle.big_steps.specs.Refusals.{is_starved};
-ghost use Rattle.command_rules.specs.Snapshots.{meet, parted};
+ghost use Rattle.whole_commands.specs.Refusals.{is_starved};
+ghost use Rattle.command_semantics.specs.Snapshots.{meet, parted};
 ghost use Rattle.device_list.specs.Asked.{IsFullIn, has_asked_much};
 ghost use Rattle.device_list.specs.Names.{IsNamedMore, KeepsQuiet, KeepsSound};
 ghost use Rattle.device_list.specs.Taking.{IsNotMet};

@@ -2,13 +2,13 @@
 ghost use Rattle.std.specs.Prelude.{◌≡◌, ◌≢◌, ◌<◌, ◌-◌, length, IfSome, IfErr, IfOk, nat_le, sum_by, slice_get, Some, position};
 ghost use Rattle.sector.specs.declared.refusal.Refusal.TheVariants.{JournalFull};
 ghost use Rattle.device_list.specs.Tables.{table_of, IsThere};
-ghost use Rattle.command_rules.specs.Places.{place_of, place_free, place_among, found, is_among, IsDepthAt, IsRoleAt, IsPlaceIn};
-ghost use Rattle.command_rules.specs.declared.place.Place.TheVariants.{Free, In};
-ghost use Rattle.command_rules.specs.Disks.{device_count, devices_in, devices_of};
+ghost use Rattle.command_semantics.specs.Places.{place_of, place_free, place_among, found, is_among, IsDepthAt, IsRoleAt, IsPlaceIn};
+ghost use Rattle.command_semantics.specs.declared.place.Place.TheVariants.{Free, In};
+ghost use Rattle.command_semantics.specs.Disks.{device_count, devices_in, devices_of};
 
 use crate::NamedVolume;
 use crate::held::{Devices, MOST_DEVICES};
-use command_rules::Place;
+use command_semantics::Place;
 use device_stacks::NamedStack;
 use sector::Refusal;
 use words::Name;
@@ -21,7 +21,7 @@ fn stack_of(stacks: &[NamedStack], name: &Name) -> Option<usize>
 }
 
 /// Where a name stands among the stacks that nothing uses.
-#[tactic(auto, unfolding(command_rules::specs::Places::place_free))]
+#[tactic(auto, unfolding(command_semantics::specs::Places::place_free))]
 fn place_free(held: &Devices, name: &Name) -> Option<Place>
     ensures place { result ≡ place_free name.now held.now.stacks.items }
     ensures within { IsThere result held.now }
@@ -50,7 +50,7 @@ fn place_among(held: &Devices, name: &Name) -> Option<Place>
 }
 
 /// Where a name stands.
-#[tactic(auto, unfolding(command_rules::specs::Places::place_of))]
+#[tactic(auto, unfolding(command_semantics::specs::Places::place_of))]
 pub fn find(held: &Devices, name: &Name) -> Option<Place>
     ensures place { result ≡ place_of name.now (table_of held.now) }
     ensures within { IsThere result held.now }

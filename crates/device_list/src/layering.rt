@@ -1,7 +1,7 @@
 // The lines of layers of a trace.
 ghost use Rattle.std.specs.Prelude.{◌≡◌, ◌<◌, ◌++◌, OnOk, length, get_or, map};
 ghost use Rattle.std.specs.List.{flat_map};
-ghost use Rattle.command_rules.specs.State.{Names};
+ghost use Rattle.command_semantics.specs.State.{Names};
 ghost use Rattle.device_list.specs.Layers.{free_layers, layers_in, merging_layers, snapshot_layers, stores_from, volume_layers};
 ghost use Rattle.device_list.specs.Tables.{table_of};
 

@@ -1,9 +1,9 @@
 // The devices of a volume as `ls` lists them.
 ghost use Rattle.std.specs.Prelude.{◌≡◌, ◌<◌, ◌++◌, IfErr, OnOk, length, get_or};
 ghost use Rattle.sector.specs.declared.refusal.Refusal.TheVariants.{NoMemory};
-ghost use Rattle.command_rules.specs.Listing.{device_item, merging_items, snapshot_items, snapshots_from, stack_items, volume_items};
-ghost use Rattle.command_rules.specs.Stacks.{device_of};
-ghost use Rattle.command_rules.specs.State.{Names};
+ghost use Rattle.command_semantics.specs.Listing.{device_item, merging_items, snapshot_items, snapshots_from, stack_items, volume_items};
+ghost use Rattle.command_semantics.specs.Stacks.{device_of};
+ghost use Rattle.command_semantics.specs.State.{Names};
 
 use crate::origin::NamedVolume;
 use crate::stored::{merging_store, store_at};
@@ -56,7 +56,7 @@ impl NamedVolume {
     }
 
     /// Adds the snapshot that is being merged and its store, if there is one.
-    #[tactic(auto, using(device_stacks::proofs::Listed::more), unfolding(command_rules::specs::Listing::merging_items))]
+    #[tactic(auto, using(device_stacks::proofs::Listed::more), unfolding(command_semantics::specs::Listing::merging_items))]
     fn list_merging(&self, out: &mut Vec<u8>) -> Result<(), Refusal>
         ensures added { OnOk result (out.new.items ≡ out.old.items ++ merging_items self.now.shown.merging self.now.shown) }
         ensures error { IfErr result (λ e. e ≡ NoMemory) }
@@ -75,7 +75,7 @@ impl NamedVolume {
 
     /// Adds its devices to a list of devices: the origin and what it stands on, the snapshots with their stores, and the one that is
     /// being merged with its own. The one error is `NoMemory`.
-    #[tactic(auto, using(device_stacks::proofs::Listed::more), unfolding(command_rules::specs::Listing::volume_items))]
+    #[tactic(auto, using(device_stacks::proofs::Listed::more), unfolding(command_semantics::specs::Listing::volume_items))]
     pub fn list(&self, out: &mut Vec<u8>) -> Result<(), Refusal>
         ensures added { OnOk result (out.new.items ≡ out.old.items ++ volume_items self.now.shown) }
         ensures error { IfErr result (λ e. e ≡ NoMemory) }

@@ -2,19 +2,19 @@
 ghost use Rattle.std.specs.Prelude.{◌≡◌, ◌<◌, ◌++◌, List, true, None, length, get_or, IfOk, OnOk};
 ghost use Rattle.sector.specs.declared.pair.Pair.{Pair as AnyPair};
 ghost use Rattle.words.specs.Given.{Gives};
-ghost use Rattle.store_bytes.specs.Picture.{place_of as place_in};
+ghost use Rattle.cow_format.specs.Picture.{place_of as place_in};
 ghost use Rattle.snapshot.specs.Kept.{Kept};
 ghost use Rattle.table.specs.Runs.{pair_at, pairs_from, runs_after};
 ghost use Rattle.layers.specs.declared.stack.Stack.{Stack as AnyStack};
 ghost use Rattle.volume.specs.Volumed.{Volumed};
 ghost use Rattle.volume_commands.specs.Flying.{IsWhole};
-ghost use Rattle.command_rules.specs.Places.{IsRoleIn};
-ghost use Rattle.command_rules.specs.Mapping.{chunks_in, map_at_place, map_in, pairs_text};
+ghost use Rattle.command_semantics.specs.Places.{IsRoleIn};
+ghost use Rattle.command_semantics.specs.Mapping.{chunks_in, map_at_place, map_in, pairs_text};
 ghost use Rattle.device_list.specs.Flights.{IsBehind};
 ghost use Rattle.device_list.specs.Mapping.{IsMapOf, kept_map, map_behind};
 
 use crate::origin::NamedVolume;
-use command_rules::Role;
+use command_semantics::Role;
 use device_stacks::sectors_of;
 use layers::Stack;
 use sector::{Pair, Refusal};
@@ -62,7 +62,7 @@ fn add_pairs(out: &mut Vec<u8>, snap: &Snapshot<Stack>, chunks: u32) -> Result<(
 }
 
 /// The pairs of a snapshot of an origin of so many sectors.
-#[tactic(auto, unfolding(command_rules::specs::Mapping::pairs_text))]
+#[tactic(auto, unfolding(command_semantics::specs::Mapping::pairs_text))]
 fn pairs_told(alloc: Global, snap: &Snapshot<Stack>, sectors: u32) -> Result<Text, AllocError>
     ensures { IfOk result (λ text. text ≡ pairs_text sectors snap.now.state.chunk snap.now.pairs) }
 {

@@ -2,9 +2,9 @@
 ghost use Rattle.std.specs.Prelude.{◌≡◌, ◌≢◌, ◌<◌, length, true, false, Ok, Err, IfErr, IfOk, OnErr, OnOk};
 ghost use Rattle.sector.specs.declared.refusal.Refusal.TheVariants.{JournalFull};
 ghost use Rattle.device.specs.Layers.{is_loud};
-ghost use Rattle.big_steps.specs.Refusals.{is_starved};
-ghost use Rattle.command_rules.specs.Changes.{Changes, Enters};
-ghost use Rattle.command_rules.specs.Merging.{begun, finished, resumed};
+ghost use Rattle.whole_commands.specs.Refusals.{is_starved};
+ghost use Rattle.command_semantics.specs.Changes.{Changes, Enters};
+ghost use Rattle.command_semantics.specs.Merging.{begun, finished, resumed};
 ghost use Rattle.device_list.specs.Asked.{IsFullIn};
 ghost use Rattle.device_list.specs.Flights.{IsUnfinished};
 ghost use Rattle.device_list.specs.Names.{IsNamedBegun, IsNamedLess, KeepsQuiet, KeepsSound};

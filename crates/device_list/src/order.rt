@@ -1,7 +1,7 @@
 // In what order the snapshots of a volume stand, and its stores.
 ghost use Rattle.std.specs.Prelude.{◌≡◌, ◌<◌, true, length, map, AllPairs};
 ghost use Rattle.volume_commands.specs.Ordered.{IsOrdered};
-ghost use Rattle.command_rules.specs.State.{merged_in};
+ghost use Rattle.command_semantics.specs.State.{merged_in};
 
 use crate::origin::NamedVolume;
 

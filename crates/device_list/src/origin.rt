@@ -4,13 +4,13 @@ ghost use Rattle.sector.specs.declared.refusal.Refusal.TheVariants.{NoMemory, Bu
 ghost use Rattle.device.specs.Layers.{is_loud};
 ghost use Rattle.layers.specs.Stack.{stack_contents, stack_done, stack_durable, stack_faults, stack_layers, stack_may_hold, stack_size};
 ghost use Rattle.volume.specs.Layering.{Measures};
-ghost use Rattle.volume_history.specs.Life.{HasLife};
-ghost use Rattle.big_steps.specs.Devices.{sectors_of as size_of};
-ghost use Rattle.command_rules.specs.Places.{role_of, role_among, role_merging, IsRoleIn};
-ghost use Rattle.command_rules.specs.Disks.{devices_in};
-ghost use Rattle.command_rules.specs.Origins.{origin_on, stack_under};
+ghost use Rattle.volume_lifetime.specs.Life.{HasLife};
+ghost use Rattle.whole_commands.specs.Devices.{sectors_of as size_of};
+ghost use Rattle.command_semantics.specs.Places.{role_of, role_among, role_merging, IsRoleIn};
+ghost use Rattle.command_semantics.specs.Disks.{devices_in};
+ghost use Rattle.command_semantics.specs.Origins.{origin_on, stack_under};
 
-use command_rules::Role;
+use command_semantics::Role;
 use device_stacks::{
     NamedStack, SnapNames, depth_in, left_after, role_among, role_merging, sectors_of,
     without_merging,
@@ -137,7 +137,7 @@ impl NamedVolume {
     }
 
     /// What a name is in the volume.
-    #[tactic(auto, unfolding(command_rules::specs::Places::role_of))]
+    #[tactic(auto, unfolding(command_semantics::specs::Places::role_of))]
     pub fn role(&self, name: &Name) -> Option<Role>
         ensures role { result ≡ role_of name.now self.now.shown }
         ensures within { IfSome result (λ role. IsRoleIn role self.now.shown) }

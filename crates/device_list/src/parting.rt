@@ -3,7 +3,7 @@ ghost use Rattle.std.specs.Prelude.{◌≡◌, ◌+◌, ◌⊎◌, ℕ, List, su
 ghost use Rattle.std.specs.List.{remove};
 ghost use Rattle.layers.specs.Stack.{stack_layers};
 ghost use Rattle.volume_commands.specs.Rested.{is_loud_in};
-ghost use Rattle.command_rules.specs.Naming.{merging_sum, names_sum, volume_sum};
+ghost use Rattle.command_semantics.specs.Naming.{merging_sum, names_sum, volume_sum};
 ghost use Rattle.volume.specs.Leaving.{is_quiet_of};
 ghost use Rattle.device_list.specs.Parting.{HasAll, HasBegun, IsParted, backed_with, parts_sum, place_begun, with_begun, with_requests, NamesAll};
 
@@ -29,7 +29,7 @@ pub struct NamedParts {
 }
 
 impl Model for NamedParts {
-    ghost use Rattle.command_rules.specs.Naming.{merging_sum, names_sum, volume_sum};
+    ghost use Rattle.command_semantics.specs.Naming.{merging_sum, names_sum, volume_sum};
     ghost use Rattle.volume.specs.Leaving.{is_quiet_of};
     ghost use Rattle.device_list.specs.Parting.{Parts};
 

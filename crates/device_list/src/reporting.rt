@@ -3,19 +3,19 @@ ghost use Rattle.std.specs.Prelude.{◌≡◌, ◌<◌, true, is_some, length, S
 ghost use Rattle.device.specs.Disk.{disk_contents};
 ghost use Rattle.words.specs.Given.{Gives};
 ghost use Rattle.event_machine.specs.Held.{Moving};
-ghost use Rattle.command_rules.specs.Places.{IsRoleIn, IsRoleMerging};
-ghost use Rattle.command_rules.specs.declared.place.Role.TheVariants.{MergingStore};
-ghost use Rattle.command_rules.specs.State.{Merging as Begun, names_in};
-ghost use Rattle.command_rules.specs.Lines.{line_in_merging, line_of_role, merging_line as merging_line_of, origin_line as origin_line_of, snapshot_line as snapshot_line_of};
-ghost use Rattle.command_rules.specs.Raw.{raw_in_merging, raw_under};
-ghost use Rattle.command_rules.specs.Status.{status_in};
+ghost use Rattle.command_semantics.specs.Places.{IsRoleIn, IsRoleMerging};
+ghost use Rattle.command_semantics.specs.declared.place.Role.TheVariants.{MergingStore};
+ghost use Rattle.command_semantics.specs.State.{Merging as Begun, names_in};
+ghost use Rattle.command_semantics.specs.Lines.{line_in_merging, line_of_role, merging_line as merging_line_of, origin_line as origin_line_of, snapshot_line as snapshot_line_of};
+ghost use Rattle.command_semantics.specs.Raw.{raw_in_merging, raw_under};
+ghost use Rattle.command_semantics.specs.Status.{status_in};
 ghost use Rattle.device_list.specs.Status.{IsStatusOf, status_flying};
 
 use crate::origin::NamedVolume;
 use crate::stored::{
     chunk_at, look, merging_chunk, merging_state, merging_store, state_at, store_at,
 };
-use command_rules::Role;
+use command_semantics::Role;
 use device::MemDisk;
 use device_stacks::{SnapNames, disk_in, line_in, sectors_of};
 use sector::Refusal;
@@ -25,7 +25,7 @@ use words::Text;
 
 impl NamedVolume {
     /// The disk of this role. `BadTable` for another device.
-    #[tactic(auto, unfolding(command_rules::specs::Raw::raw_in_store))]
+    #[tactic(auto, unfolding(command_semantics::specs::Raw::raw_in_store))]
     pub fn disk(&self, role: Role) -> Result<&MemDisk, Refusal>
         requires { IsRoleIn role self.now.shown }
         ensures { MatchResult result (λ disk. raw_under role self.now.shown ≡ Ok (disk_contents disk.now)) (λ e. raw_under role self.now.shown ≡ Err e) }
@@ -39,7 +39,7 @@ impl NamedVolume {
     }
 
     /// The disk so deep in the store of the snapshot that is being merged. `BadTable` for another device.
-    #[tactic(auto, unfolding(command_rules::specs::Raw::raw_in_merging))]
+    #[tactic(auto, unfolding(command_semantics::specs::Raw::raw_in_merging))]
     fn disk_of_merging(&self, depth: usize) -> Result<&MemDisk, Refusal>
         requires { IsRoleMerging (MergingStore depth) (names_in self.now.shown.merging) }
         ensures { MatchResult result (λ disk. raw_in_merging depth self.now.shown ≡ Ok (disk_contents disk.now)) (λ e. raw_in_merging depth self.now.shown ≡ Err e) }
@@ -54,7 +54,7 @@ impl NamedVolume {
     }
 
     /// The line of the device so deep in that store. `BadTable` for a disk.
-    #[tactic(auto, unfolding(command_rules::specs::Lines::line_in_merging))]
+    #[tactic(auto, unfolding(command_semantics::specs::Lines::line_in_merging))]
     fn line_in_merging(&self, depth: usize) -> Result<Line, Refusal>
         requires { IsRoleMerging (MergingStore depth) (names_in self.now.shown.merging) }
         ensures { result ≡ line_in_merging depth self.now.shown }
@@ -69,7 +69,7 @@ impl NamedVolume {
     }
 
     /// The line of the snapshot that is being merged: that of any other.
-    #[tactic(auto, unfolding(command_rules::specs::Lines::merging_line))]
+    #[tactic(auto, unfolding(command_semantics::specs::Lines::merging_line))]
     pub(crate) fn line_of_merging(&self) -> Result<Line, Refusal>
         requires { is_some self.now.shown.merging ≡ true }
         ensures { result ≡ merging_line_of self.now.shown }
@@ -96,7 +96,7 @@ impl NamedVolume {
     }
 
     /// The origin's line where no merge is begun.
-    #[tactic(auto, unfolding(command_rules::specs::Lines::origin_line, command_rules::specs::Lines::origin_target))]
+    #[tactic(auto, unfolding(command_semantics::specs::Lines::origin_line, command_semantics::specs::Lines::origin_target))]
     fn line_of_plain_origin(&self) -> Result<Line, Refusal>
         requires { self.now.shown.merging ≡ None }
         ensures { result ≡ origin_line_of self.now.shown }
@@ -113,7 +113,7 @@ impl NamedVolume {
     }
 
     /// The origin's line while a merge is begun.
-    #[tactic(auto, unfolding(command_rules::specs::Lines::origin_line, command_rules::specs::Lines::origin_target))]
+    #[tactic(auto, unfolding(command_semantics::specs::Lines::origin_line, command_semantics::specs::Lines::origin_target))]
     fn line_of_merged_origin(&self, names: &SnapNames) -> Result<Line, Refusal>
         requires { (g : Begun) × (self.now.shown.merging ≡ Some g) × (g.names ≡ names.now) }
         ensures { result ≡ origin_line_of self.now.shown }
@@ -146,7 +146,7 @@ impl NamedVolume {
     }
 
     /// The line of a snapshot.
-    #[tactic(auto, unfolding(command_rules::specs::Lines::snapshot_line))]
+    #[tactic(auto, unfolding(command_semantics::specs::Lines::snapshot_line))]
     pub(crate) fn line_of_snapshot(&self, k: usize) -> Result<Line, Refusal>
         requires { k < length self.now.shown.snaps }
         ensures { result ≡ snapshot_line_of k self.now.shown }
@@ -166,7 +166,7 @@ impl NamedVolume {
     }
 
     /// The line of the device of this role. `BadTable` for a disk.
-    #[tactic(auto, unfolding(command_rules::specs::Lines::line_in_store))]
+    #[tactic(auto, unfolding(command_semantics::specs::Lines::line_in_store))]
     pub fn line(&self, role: Role) -> Result<Line, Refusal>
         requires { IsRoleIn role self.now.shown }
         ensures { result ≡ line_of_role role self.now.shown }
@@ -184,7 +184,7 @@ impl NamedVolume {
     /// The status line of a device of this role. Where something is in flight, that of a snapshot is by what is in memory of
     /// it. In this order: `BadTable` for disks and layers, `NoMemory` where the allocator refuses room.
     #[inline(never)]
-    #[tactic(auto, unfolding(command_rules::specs::Status::status_in, crate::specs::Status::status_flying))]
+    #[tactic(auto, unfolding(command_semantics::specs::Status::status_in, crate::specs::Status::status_flying))]
     pub fn status(&self, alloc: Global, role: Role) -> Result<Text, Refusal>
         requires { IsRoleIn role self.now.shown }
         ensures done { self.now.shown.sound ≡ true → self.now.shown.quiet ≡ true → Gives result (status_in role self.now.shown) }

@@ -4,10 +4,10 @@ ghost use Rattle.sector.specs.declared.refusal.Refusal.TheVariants.{NoMemory, Jo
 ghost use Rattle.chunk.specs.Pieces.{span_of};
 ghost use Rattle.layers.specs.Stack.{stack_size};
 ghost use Rattle.volume_commands.specs.Rested.{has_dev};
-ghost use Rattle.command_rules.specs.State.{Volume};
-ghost use Rattle.command_rules.specs.Changes.{Serves};
-ghost use Rattle.command_rules.specs.Places.{HasRole, IsRoleIn};
-ghost use Rattle.command_rules.specs.Sectors.{asked_of, dev_of, serves, takes, flushed_in, read_in, written_in, IsReadAsked, IsPartWritten};
+ghost use Rattle.command_semantics.specs.State.{Volume};
+ghost use Rattle.command_semantics.specs.Changes.{Serves};
+ghost use Rattle.command_semantics.specs.Places.{HasRole, IsRoleIn};
+ghost use Rattle.command_semantics.specs.Sectors.{asked_of, dev_of, serves, takes, flushed_in, read_in, written_in, IsReadAsked, IsPartWritten};
 ghost use Rattle.device_list.specs.Asked.{IsFullIn};
 ghost use Rattle.device_list.specs.Backed.{InBacked, Counts, MayAsk, TellsNone};
 ghost use Rattle.device_list.specs.Flights.{FlushesAmong, FlushesAtRest, IsDenied, ReadsAmong, ReadsAtRest, WritesAmong, WritesAtRest};
@@ -16,7 +16,7 @@ ghost use Rattle.device_list.specs.Names.{KeepsNames, StaysQuiet};
 
 use crate::origin::NamedVolume;
 use crate::stored::look_at_places;
-use command_rules::Role;
+use command_semantics::Role;
 use device_stacks::{range_in, sectors_of};
 use layers::Stack;
 use plain_machine::Dev;
@@ -40,7 +40,7 @@ fn serves(role: Role) -> Result<(), Refusal>
 
 /// What a request to this role is sent to. `BadTable` for disks and layers, `MergingSnapshot` for the one that is being
 /// merged.
-#[tactic(auto, unfolding(command_rules::specs::Sectors::dev_of))]
+#[tactic(auto, unfolding(command_semantics::specs::Sectors::dev_of))]
 fn dev_of(volume: &Resting<Stack>, role: Role) -> Result<Dev, Refusal>
     requires { HasRole role (length volume.now.rested.snaps) (is_some volume.now.rested.events.merge) }
     ensures value { result ≡ dev_of role (settled_in volume.now.rested) }

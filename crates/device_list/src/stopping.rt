@@ -1,8 +1,8 @@
 // A volume is stopped, and its stacks are given back one by one.
 ghost use Rattle.std.specs.Prelude.{◌≡◌, [], ◌∷◌, length, true, IfNone, IfSome};
 ghost use Rattle.std.specs.List.{list_all};
-ghost use Rattle.command_rules.specs.Sound.{is_sound_stack};
-ghost use Rattle.command_rules.specs.Stopping.{stopped};
+ghost use Rattle.command_semantics.specs.Sound.{is_sound_stack};
+ghost use Rattle.command_semantics.specs.Stopping.{stopped};
 ghost use Rattle.device_list.specs.Stopping.{IsTakenLost, earlier_than};
 ghost use Rattle.volume.specs.Asking.{merging_number};
 ghost use Rattle.volume.specs.Stopped.{devices_of};

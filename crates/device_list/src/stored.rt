@@ -1,14 +1,14 @@
 // What a volume over stacks tells of the snapshot at a place.
 ghost use Rattle.std.specs.Prelude.{◌≡◌, ◌<◌, ◌≤◌, ◌+◌, ◌*◌, true, length, get_or, IfSome, Some, None};
 ghost use Rattle.layers.specs.Stack.{stack_layers};
-ghost use Rattle.big_steps.specs.Merges.{Merge};
-ghost use Rattle.big_steps.specs.Snaps.{Snap};
+ghost use Rattle.whole_commands.specs.Merges.{Merge};
+ghost use Rattle.whole_commands.specs.Snaps.{Snap};
 ghost use Rattle.table.specs.declared.status.StatusState.TheVariants.{Used};
 ghost use Rattle.volume.specs.Leaving.{is_quiet_of};
 ghost use Rattle.volume_commands.specs.Flying.{IsWhole};
 ghost use Rattle.volume_commands.specs.Rested.{is_loud_in};
-ghost use Rattle.command_rules.specs.Stacks.{device_of};
-ghost use Rattle.command_rules.specs.Status.{merge_state, state_of};
+ghost use Rattle.command_semantics.specs.Stacks.{device_of};
+ghost use Rattle.command_semantics.specs.Status.{merge_state, state_of};
 ghost use Rattle.device_list.specs.Held.{merged_inside, settled_in, IsSettledIn, HasNoMerge};
 ghost use Rattle.device_list.specs.Status.{IsStateAt};
 

@@ -2,13 +2,13 @@
 ghost use Rattle.std.specs.Prelude.{◌≡◌, is_some, length};
 ghost use Rattle.layers.specs.Stack.{stack_contents, stack_layers, stack_size};
 ghost use Rattle.volume_commands.specs.ChangesLayers.{ChangesLayers};
-ghost use Rattle.command_rules.specs.Changes.{Steps};
-ghost use Rattle.command_rules.specs.Places.{HasRole, IsRoleIn};
-ghost use Rattle.command_rules.specs.Messages.{told_mounted, told_role, volume_ticked};
+ghost use Rattle.command_semantics.specs.Changes.{Steps};
+ghost use Rattle.command_semantics.specs.Places.{HasRole, IsRoleIn};
+ghost use Rattle.command_semantics.specs.Messages.{told_mounted, told_role, volume_ticked};
 ghost use Rattle.device_list.specs.Held.{merged_inside};
 
 use crate::origin::NamedVolume;
-use command_rules::Role;
+use command_semantics::Role;
 use layers::{Answer, Message, Stack};
 use sector::Refusal;
 use volume_commands::Resting;

@@ -1,7 +1,7 @@
 // The line of a trace of a volume.
 ghost use Rattle.std.specs.Prelude.{◌≡◌, Some, IfOk};
-ghost use Rattle.command_rules.specs.State.{Merging as Begun};
-ghost use Rattle.command_rules.specs.Status.{merge_state};
+ghost use Rattle.command_semantics.specs.State.{Merging as Begun};
+ghost use Rattle.command_semantics.specs.Status.{merge_state};
 ghost use Rattle.device_list.specs.Trace.{IsTraced, merge_text};
 
 use crate::origin::NamedVolume;

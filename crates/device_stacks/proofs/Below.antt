@@ -3,19 +3,19 @@ use Rattle.std.proofs.Common.{◌≡◌, ◌≢◌, ℕ, zero, suc, ◌-◌, ◌
 use Rattle.std.specs.Prelude.{Option, Some, None, Ok, is_some}
 use Rattle.std.specs.List.{remove}
 use Rattle.device.specs.Layers.{Layer}
-use Rattle.big_steps.specs.Devices.{Device}
+use Rattle.whole_commands.specs.Devices.{Device}
 use Rattle.layers.specs.declared.stack.Stack.{Stack, Disk, Flakey', Dust', Error}
 use Rattle.layers.specs.Stack.{stack_layers, below_of}
 use Rattle.layers.specs.declared.broken.Broken.{Broken}
 use Rattle.device.specs.declared.mem_disk.MemDisk.{MemDisk}
 use Rattle.layers.specs.Windows.{layers_below, bytes_below}
 use Rattle.layers.specs.Beneath.{IsOver, stack_over}
-use Rattle.command_rules.specs.Stacks.{device_of}
-use Rattle.command_rules.specs.State.{Stacked, Table}
-use Rattle.command_rules.specs.Layers.{put}
-use Rattle.command_rules.specs.Removing.{left_with, left_as, lowered_device, lowered_to, lowered}
-use Rattle.command_rules.specs.Lines.{device_at}
-use Rattle.command_rules.proofs.AtPlace.{stack_here}
+use Rattle.command_semantics.specs.Stacks.{device_of}
+use Rattle.command_semantics.specs.State.{Stacked, Table}
+use Rattle.command_semantics.specs.Layers.{put}
+use Rattle.command_semantics.specs.Removing.{left_with, left_as, lowered_device, lowered_to, lowered}
+use Rattle.command_semantics.specs.Lines.{device_at}
+use Rattle.command_semantics.proofs.AtPlace.{stack_here}
 
 -- whether the top of a stack is a layer over another device
 abbrev pub is_over : Stack → Bool

@@ -11,8 +11,8 @@ use Rattle.layers.specs.Stack.{stack_layers, stack_contents}
 use Rattle.layers.specs.Disk.{disk_of}
 use Rattle.layers.specs.Windows.{has_disk, raw_of}
 use Rattle.layers.specs.Beneath.{stack_raw, stack_has_disk}
-use Rattle.command_rules.specs.Stacks.{device_of}
-use Rattle.command_rules.specs.Raw.{raw_in, is_disk}
+use Rattle.command_semantics.specs.Stacks.{device_of}
+use Rattle.command_semantics.specs.Raw.{raw_in, is_disk}
 
 -- it is there
 pub raw_there : (s : Stack) (depth : ℕ) (names : List (List ℕ)) (disk : MemDisk) → (depth + 1 == length names) ≡ true → disk_of s ≡ Some disk → raw_in depth names (device_of s) ≡ Ok (disk_contents disk)

@@ -1,9 +1,9 @@
 -- Devices that are added to a list one after the other.
 use Rattle.std.proofs.Common.{◌≡◌, ℕ, ◌+◌, ◌<◌, ◌≤◌, List, ◌++◌, length, drop, get_or, append_assoc, sym, ap, ◌∙◌}
 use Rattle.std.proofs.lemmas.List.{append-nil, drop_all, drop_more}
-use Rattle.big_steps.specs.Devices.{Device}
-use Rattle.command_rules.specs.Lines.{line_in}
-use Rattle.command_rules.specs.Listing.{device_item, items_from, stack_items}
+use Rattle.whole_commands.specs.Devices.{Device}
+use Rattle.command_semantics.specs.Lines.{line_in}
+use Rattle.command_semantics.specs.Listing.{device_item, items_from, stack_items}
 
 -- a text after a text that was added
 pub more : (old mid new s t : List ℕ) → mid ≡ old ++ s → new ≡ mid ++ t → new ≡ old ++ (s ++ t)

@@ -3,8 +3,8 @@ use Rattle.std.proofs.Common.{◌≡◌, ℕ, ◌*◌, ◌/◌, ◌≤◌, lengt
 use Rattle.layers.specs.declared.stack.Stack.{Stack}
 use Rattle.layers.specs.Stack.{stack_size}
 use Rattle.layers.specs.Whole.{stack_whole, stack_small}
-use Rattle.big_steps.specs.Devices.{Device, sectors_of}
-use Rattle.command_rules.specs.Stacks.{device_of}
+use Rattle.whole_commands.specs.Devices.{Device, sectors_of}
+use Rattle.command_semantics.specs.Stacks.{device_of}
 
 by_512 : (n l : ℕ) → l ≡ 512 * n → n ≡ l / 512
 by_512 n l e = omega (arith, e)

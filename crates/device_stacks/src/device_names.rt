@@ -1,6 +1,6 @@
 // The names of a stack.
 ghost use Rattle.std.specs.Prelude.{◌≡◌, ◌<◌, ◌∷◌, [], length, IfOk, IfSome};
-ghost use Rattle.command_rules.specs.Places.{depth_in};
+ghost use Rattle.command_semantics.specs.Places.{depth_in};
 
 use std::alloc::{AllocError, Global};
 use words::Name;

@@ -1,7 +1,7 @@
 //! A stack of layers with the names of its devices, from the top down to the disk: what each command asks of one that nothing
 //! uses (`NamedStack`), and what a name in any stack leads to: its depth, the disk at the bottom, the table line of a layer.
 //!
-//! It stands on `command_rules` for definitions, on `layers` for stacks, on `table` for lines and on `words` for names. It knows
+//! It stands on `command_semantics` for definitions, on `layers` for stacks, on `table` for lines and on `words` for names. It knows
 //! no volume: of a snapshot it has the names alone (`SnapNames`). It promises that each call answers and leaves exactly what its
 //! definition says, with the first refusal in the stated order. Numbers of sectors that a command names are checked here too.
 #![tactic(auto)]

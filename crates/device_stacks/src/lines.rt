@@ -4,9 +4,9 @@ ghost use Rattle.std.specs.Option.{option_copied};
 ghost use Rattle.layers.specs.Layer.{features_of};
 ghost use Rattle.layers.specs.Stack.{stack_layers};
 ghost use Rattle.table.specs.declared.lines.Target.TheVariants.{Flakey as FlakeyLine};
-ghost use Rattle.big_steps.specs.Devices.{sectors_of};
-ghost use Rattle.command_rules.specs.Lines.{device_at, line_in, line_of, target_of, words_of};
-ghost use Rattle.command_rules.specs.Stacks.{device_of};
+ghost use Rattle.whole_commands.specs.Devices.{sectors_of};
+ghost use Rattle.command_semantics.specs.Lines.{device_at, line_in, line_of, target_of, words_of};
+ghost use Rattle.command_semantics.specs.Stacks.{device_of};
 
 use device::Block;
 use layers::{Flakey, Stack};
@@ -97,7 +97,7 @@ fn layer_at(stack: &Stack, depth: usize) -> Option<&Stack>
 }
 
 /// The line of the device so deep in a stack with these names. `BadTable` for a disk.
-#[tactic(auto, unfolding(command_rules::specs::Lines::line_in))]
+#[tactic(auto, unfolding(command_semantics::specs::Lines::line_in))]
 pub fn line_in(depth: usize, names: &[Name], stack: &Stack) -> Result<Line, Refusal>
     requires { depth < length names.now }
     ensures { result ≡ line_in depth names.now (device_of stack.now) }

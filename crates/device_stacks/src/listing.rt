@@ -1,8 +1,8 @@
 // Devices as `ls` lists them.
 ghost use Rattle.std.specs.Prelude.{◌≡◌, ◌++◌, IfErr, OnOk};
 ghost use Rattle.sector.specs.declared.refusal.Refusal.TheVariants.{NoMemory};
-ghost use Rattle.command_rules.specs.Listing.{device_item, kind_text, stack_items};
-ghost use Rattle.command_rules.specs.Stacks.{device_of};
+ghost use Rattle.command_semantics.specs.Listing.{device_item, kind_text, stack_items};
+ghost use Rattle.command_semantics.specs.Stacks.{device_of};
 
 use crate::lines::line_in;
 use layers::Stack;

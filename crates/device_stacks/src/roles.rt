@@ -1,11 +1,11 @@
 // What a name is among the snapshots of a volume and their stores, and how many devices these are.
 ghost use Rattle.std.specs.Prelude.{◌≡◌, ◌<◌, ◌-◌, IfSome, length, position, sum_by};
 ghost use Rattle.std.specs.Str.{bytes_eq};
-ghost use Rattle.command_rules.specs.Disks.{devices_merging, devices_under};
-ghost use Rattle.command_rules.specs.Places.{IsRoleAmong, IsRoleMerging, is_among, role_among, role_merging, store_among};
+ghost use Rattle.command_semantics.specs.Disks.{devices_merging, devices_under};
+ghost use Rattle.command_semantics.specs.Places.{IsRoleAmong, IsRoleMerging, is_among, role_among, role_merging, store_among};
 
 use crate::SnapNames;
-use command_rules::Role;
+use command_semantics::Role;
 use words::Name;
 
 fn snapshot_of(snaps: &[SnapNames], name: &Name) -> Option<usize>
@@ -23,7 +23,7 @@ fn store_of(snaps: &[SnapNames], name: &Name) -> Option<usize>
 }
 
 /// What a name is among the stores.
-#[tactic(auto, unfolding(command_rules::specs::Places::store_among))]
+#[tactic(auto, unfolding(command_semantics::specs::Places::store_among))]
 fn store_among(snaps: &[SnapNames], name: &Name) -> Option<Role>
     ensures role { result ≡ store_among name.now snaps.now }
     ensures within { IfSome result (λ role. IsRoleAmong role snaps.now) }
@@ -38,7 +38,7 @@ fn store_among(snaps: &[SnapNames], name: &Name) -> Option<Role>
 }
 
 /// What a name is among the snapshots and their stores.
-#[tactic(auto, unfolding(command_rules::specs::Places::role_among))]
+#[tactic(auto, unfolding(command_semantics::specs::Places::role_among))]
 pub fn role_among(snaps: &[SnapNames], name: &Name) -> Option<Role>
     ensures role { result ≡ role_among name.now snaps.now }
     ensures within { IfSome result (λ role. IsRoleAmong role snaps.now) }
@@ -50,7 +50,7 @@ pub fn role_among(snaps: &[SnapNames], name: &Name) -> Option<Role>
 }
 
 /// What a name is of the snapshot that is being merged and its store.
-#[tactic(auto, unfolding(command_rules::specs::Places::role_merging))]
+#[tactic(auto, unfolding(command_semantics::specs::Places::role_merging))]
 pub fn role_merging(merging: &Option<SnapNames>, name: &Name) -> Option<Role>
     ensures role { result ≡ role_merging name.now merging.now }
     ensures within { IfSome result (λ role. IsRoleMerging role merging.now) }

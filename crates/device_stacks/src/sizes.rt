@@ -2,7 +2,7 @@
 ghost use Rattle.std.specs.Prelude.{◌≡◌, ◌≢◌, ◌≤◌, ◌<◌, ◌+◌, ◌*◌, length, MatchResult, IfErr, IfOk, OnOk, Ok, Err};
 ghost use Rattle.sector.specs.declared.refusal.Refusal.TheVariants.{JournalFull};
 ghost use Rattle.command.specs.Words.{sectors_of};
-ghost use Rattle.command_rules.specs.Raw.{fits, whole};
+ghost use Rattle.command_semantics.specs.Raw.{fits, whole};
 
 use sector::{Range, Refusal, SECTOR_BYTES};
 

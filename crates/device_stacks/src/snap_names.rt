@@ -3,10 +3,10 @@ ghost use Rattle.std.specs.Prelude.{◌≡◌, ◌<◌, length, slice_get, Match
 ghost use Rattle.std.specs.Option.{option_copied};
 ghost use Rattle.std.specs.Str.{bytes_eq};
 ghost use Rattle.device.specs.Disk.{disk_contents};
-ghost use Rattle.command_rules.specs.Places.{depth_in};
-ghost use Rattle.command_rules.specs.Lines.{line_in};
-ghost use Rattle.command_rules.specs.Raw.{raw_in};
-ghost use Rattle.command_rules.specs.Stacks.{device_of};
+ghost use Rattle.command_semantics.specs.Places.{depth_in};
+ghost use Rattle.command_semantics.specs.Lines.{line_in};
+ghost use Rattle.command_semantics.specs.Raw.{raw_in};
+ghost use Rattle.command_semantics.specs.Stacks.{device_of};
 
 use crate::{depth_in, disk_in, line_in};
 use device::MemDisk;
@@ -25,7 +25,7 @@ pub struct SnapNames {
 }
 
 impl Model for SnapNames {
-    ghost use Rattle.command_rules.specs.State.{Names};
+    ghost use Rattle.command_semantics.specs.State.{Names};
 
     ghost Value = { Names };
 

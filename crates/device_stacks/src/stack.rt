@@ -2,21 +2,21 @@
 ghost use Rattle.std.specs.Prelude.{◌≡◌, ◌≤◌, ◌<◌, ◌+◌, ◌*◌, ◌/◌, ◌++◌, true, false, [], ◌∷◌, length, nat_le, is_some, Some, Ok, Err, MatchResult, IsTrue, OnOk, OnErr, IfErr, IfOk, IfSome};
 ghost use Rattle.device.specs.Disk.{disk_contents};
 ghost use Rattle.device.specs.Layers.{Dusty, is_loud};
-ghost use Rattle.big_steps.specs.Devices.{sectors_of};
-ghost use Rattle.command_rules.specs.Disks.{alone, failing};
-ghost use Rattle.command_rules.specs.Layers.{layered, under};
-ghost use Rattle.command_rules.specs.Messages.{stack_ticked, told_free};
-ghost use Rattle.command_rules.specs.Lines.{line_in};
-ghost use Rattle.command_rules.specs.Listing.{free_items};
-ghost use Rattle.command_rules.specs.Raw.{loaded_free, raw_in};
-ghost use Rattle.command_rules.specs.Removing.{lowered_device, lowered_to};
+ghost use Rattle.whole_commands.specs.Devices.{sectors_of};
+ghost use Rattle.command_semantics.specs.Disks.{alone, failing};
+ghost use Rattle.command_semantics.specs.Layers.{layered, under};
+ghost use Rattle.command_semantics.specs.Messages.{stack_ticked, told_free};
+ghost use Rattle.command_semantics.specs.Lines.{line_in};
+ghost use Rattle.command_semantics.specs.Listing.{free_items};
+ghost use Rattle.command_semantics.specs.Raw.{loaded_free, raw_in};
+ghost use Rattle.command_semantics.specs.Removing.{lowered_device, lowered_to};
 ghost use Rattle.layers.specs.Windows.{layers_below};
-ghost use Rattle.command_rules.specs.Stacks.{device_of};
+ghost use Rattle.command_semantics.specs.Stacks.{device_of};
 ghost use Rattle.layers.specs.Stack.{stack_layers, stack_size};
 ghost use Rattle.sector.specs.declared.refusal.Refusal.TheVariants.{NoMemory};
-ghost use Rattle.command_rules.specs.Changes.{Changes, Steps};
+ghost use Rattle.command_semantics.specs.Changes.{Changes, Steps};
 ghost use Rattle.layers.specs.Layer.{dust_layer, flakey_layer};
-ghost use Rattle.command_rules.specs.Places.{depth_in, is_among};
+ghost use Rattle.command_semantics.specs.Places.{depth_in, is_among};
 
 use crate::bottom::disk_in;
 use crate::device_names::{depth_in, one_name};
@@ -42,8 +42,8 @@ pub struct NamedStack {
 }
 
 impl Model for NamedStack {
-    ghost use Rattle.command_rules.specs.State.{Stacked};
-    ghost use Rattle.command_rules.specs.Stacks.{device_of};
+    ghost use Rattle.command_semantics.specs.State.{Stacked};
+    ghost use Rattle.command_semantics.specs.Stacks.{device_of};
 
     ghost Value = { Stacked };
 
@@ -190,7 +190,7 @@ impl NamedStack {
 
     /// Tells the layer so deep from the top. In this order: `BadTable` where that is no dust layer, `OutOfRange` for a block
     /// past its end, `NoMemory` where a block is added and the allocator refuses room.
-    #[tactic(auto, unfolding(command_rules::specs::Messages::told_free))]
+    #[tactic(auto, unfolding(command_semantics::specs::Messages::told_free))]
     pub fn tell(&mut self, depth: usize, message: &Message) -> Result<Answer, Refusal>
         ensures { Steps result self.old self.new (told_free depth message.now self.old) }
     {
@@ -230,7 +230,7 @@ impl NamedStack {
 
     /// Writes raw sectors of the disk at a depth, which then count as flushed. In this order: `BadTable` for another
     /// device, `OutOfRange` where they don't lie inside it, `Busy` where a layer stands on it.
-    #[tactic(auto, using(device::specs::Laws::disk_whole), unfolding(command_rules::specs::Raw::loaded_free))]
+    #[tactic(auto, using(device::specs::Laws::disk_whole), unfolding(command_semantics::specs::Raw::loaded_free))]
     pub fn load(
         &mut self,
         depth: usize,

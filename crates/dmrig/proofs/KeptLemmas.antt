@@ -1,11 +1,11 @@
 -- What was shown stays so where the writer's bytes are kept: they are only written out.
 use Rattle.std.proofs.Common.{ℕ, Bool, true, false, List, Option, Some, None}
 use Rattle.std.specs.Io.KnownBytes.{Appends, Keeps}
-use Rattle.runner.specs.Exit.{IsEarly}
-use Rattle.runner.specs.Sessions.{Sitting}
-use Rattle.runner.specs.declared.error.RunError.{RunError}
-use Rattle.runner.specs.declared.error.RunError.TheVariants.{Memory, Read, Write, Endless}
-use Rattle.runner.specs.declared.summary.Summary.{Summary}
+use Rattle.script_runner.specs.Exit.{IsEarly}
+use Rattle.script_runner.specs.Sessions.{Sitting}
+use Rattle.script_runner.specs.declared.error.RunError.{RunError}
+use Rattle.script_runner.specs.declared.error.RunError.TheVariants.{Memory, Read, Write, Endless}
+use Rattle.script_runner.specs.declared.summary.Summary.{Summary}
 use Rattle.dmrig.specs.Shown.{IsBegun, IsShown, IsTold}
 
 -- bytes that were appended, and then kept

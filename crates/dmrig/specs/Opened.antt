@@ -2,9 +2,9 @@
 use Rattle.std.specs.Prelude.{◌≡◌, ℕ, Bool, List, codes, if◌then◌else◌, Option, Some, None, Result, Ok, Err}
 use Rattle.std.specs.Str.{bytes_eq}
 use Rattle.std.specs.Io.KnownBytes.{Keeps}
-use Rattle.runner.specs.Sessions.{Sitting}
-use Rattle.runner.specs.declared.error.RunError.{RunError}
-use Rattle.runner.specs.declared.summary.Summary.{Summary}
+use Rattle.script_runner.specs.Sessions.{Sitting}
+use Rattle.script_runner.specs.declared.error.RunError.{RunError}
+use Rattle.script_runner.specs.declared.summary.Summary.{Summary}
 use Rattle.dmrig.specs.declared.source.Source.{Source}
 use Rattle.dmrig.specs.declared.source.Source.TheVariants.{Input, File}
 use Rattle.dmrig.specs.Ended.{ended}

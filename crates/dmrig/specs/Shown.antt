@@ -2,15 +2,15 @@
 use Rattle.std.specs.Prelude.{◌≡◌, ℕ, Bool, true, false, List, Option, Result, IfErr, IfOk, IfSome}
 use Rattle.std.specs.Io.KnownBytes.{Appends}
 use Rattle.command_replies.specs.declared.command_reply.CommandReply.{CommandReply}
-use Rattle.runner.specs.Counts.{summary_of}
-use Rattle.runner.specs.Exit.{IsEarly, IsWriters}
-use Rattle.runner.specs.Numbered.{IsTextAnswered, IsTextAnsweredTo, all_of, numbered_from}
-use Rattle.runner.specs.Output.{printed}
-use Rattle.runner.specs.Runs.{IsTextBegun, IsTextDone}
-use Rattle.runner.specs.Sessions.{Sitting}
-use Rattle.runner.specs.Told.{IsTextTold}
-use Rattle.runner.specs.declared.error.RunError.{RunError}
-use Rattle.runner.specs.declared.summary.Summary.{Summary}
+use Rattle.script_runner.specs.Counts.{summary_of}
+use Rattle.script_runner.specs.Exit.{IsEarly, IsWriters}
+use Rattle.script_runner.specs.Numbered.{IsTextAnswered, IsTextAnsweredTo, all_of, numbered_from}
+use Rattle.script_runner.specs.Output.{printed}
+use Rattle.script_runner.specs.Runs.{IsTextBegun, IsTextDone}
+use Rattle.script_runner.specs.Sessions.{Sitting}
+use Rattle.script_runner.specs.Told.{IsTextTold}
+use Rattle.script_runner.specs.declared.error.RunError.{RunError}
+use Rattle.script_runner.specs.declared.summary.Summary.{Summary}
 
 -- the replies of all lines are printed, behind what was printed before, and counted
 abbrev pub IsShown : Bool → Option (List ℕ) → Option (List ℕ) → Option (List ℕ) → Summary → Type 0

@@ -1,10 +1,10 @@
 //! The command program `dmrig [--numbers] [--trace] [--explain] [--checkpoint] [FILE [WORKERS]]`: it does the command lines of a file, or
 //! of standard input, and prints their answers. Each answer is written out before more input is waited for.
 //!
-//! It stands on `runner`, which says what is printed, and has only what concerns the process: the words of the command
+//! It stands on `script_runner`, which says what is printed, and has only what concerns the process: the words of the command
 //! line, the file, standard output and the exit status (0, 1 where a line was refused, 2 where the run ended early or
 //! could not begin). What is asked for is done over any reader, writer, tracer and any way to open a file (`running::done`): its
-//! contract hands on what `runner` prints and tells, of standard input or of the file that was opened. Here stands what makes those
+//! contract hands on what `script_runner` prints and tells, of standard input or of the file that was opened. Here stands what makes those
 //! of the process.
 #![tactic(auto)]
 
@@ -17,8 +17,8 @@ mod source;
 
 use crate::asking::{Asked, any_ask};
 use crate::running::done;
-use refusal_reasons::ExplainTo;
-use runner::{Both, TraceTo};
+use explain_refusals::ExplainTo;
+use script_runner::{Both, TraceTo};
 use std::alloc::Global;
 use std::io::{BufWriter, Printer};
 use std::process::ExitCode;

@@ -2,9 +2,9 @@
 ghost use Rattle.std.specs.Prelude.{◌≡◌, ◌≤◌, ◌==◌, Result, is_some, option_map, IfErr, IfOk};
 ghost use Rattle.std.specs.Fn.{FnOnceReturnsAt};
 ghost use Rattle.std.specs.Io.KnownBytes.{Keeps};
-ghost use Rattle.runner.specs.Exit.{IsEarly};
-ghost use Rattle.runner.specs.Both.{TellsBoth};
-ghost use Rattle.runner.specs.Told.{TellsIfThere};
+ghost use Rattle.script_runner.specs.Exit.{IsEarly};
+ghost use Rattle.script_runner.specs.Both.{TellsBoth};
+ghost use Rattle.script_runner.specs.Told.{TellsIfThere};
 ghost use Rattle.dmrig.specs.Ended.{ended};
 ghost use Rattle.dmrig.specs.Opened.{IsDone, IsOpened, file_named};
 ghost use Rattle.dmrig.specs.Shown.{IsBegun, IsRun, IsShown, IsTold};
@@ -12,7 +12,7 @@ ghost use Rattle.dmrig.specs.Wanted.{text_of};
 
 use crate::asking::Asked;
 use crate::source::Source;
-use runner::{Both, RunError, Summary, Tracer, exit_status, run, run_numbered};
+use script_runner::{Both, RunError, Summary, Tracer, exit_status, run, run_numbered};
 use std::io;
 use std::io::{Read, Write};
 use std::sync::Wait;

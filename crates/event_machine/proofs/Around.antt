@@ -7,10 +7,10 @@ use Rattle.plain_machine.specs.declared.request.Reply.{Reply}
 use Rattle.in_flight.specs.declared.copies.Stage.{Stage}
 use Rattle.in_flight.specs.declared.copies.Stage.TheVariants.{Waiting, Read}
 use Rattle.in_flight.specs.Due.{first_by, least}
-use Rattle.big_steps.specs.Devices.{Device}
+use Rattle.whole_commands.specs.Devices.{Device}
 use Rattle.event_machine.specs.Held.{SnapHeld, Going, MergeHeld, Moving, number_of}
 use Rattle.event_machine.specs.Due.{can_mark, can_flush_store, can_commit, can_zero, copy_at, publishable_in, is_issuable, number_of_going, least_in, chosen, due, is_front_ready, is_front_unflushed}
-use Rattle.big_steps.proofs.Each.{Each, each_weaker}
+use Rattle.whole_commands.proofs.Each.{Each, each_weaker}
 use Rattle.event_machine.specs.Stepping.{is_copy}
 use Rattle.event_machine.proofs.Lists.{here_by, none_by, nowhere_by, only_least, first_least, nowhere_least, none_least, Above}
 

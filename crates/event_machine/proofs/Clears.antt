@@ -4,7 +4,7 @@ use Rattle.std.specs.Prelude.{◌&&◌, ◌||◌, not}
 use Rattle.std.specs.List.{list_any, list_all}
 use Rattle.event_machine.specs.Held.{SnapHeld, is_untried}
 use Rattle.event_machine.specs.Again.{is_saved, is_clear}
-use Rattle.big_steps.proofs.Each.{Each}
+use Rattle.whole_commands.proofs.Each.{Each}
 
 pub and_last : (x y : Bool) → y ≡ false → (x && y) ≡ false
 and_last true y e = e

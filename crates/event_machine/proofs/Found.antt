@@ -4,13 +4,13 @@ use Rattle.std.specs.Prelude.{◌==◌}
 use Rattle.std.proofs.lemmas.Bool.{cases_Bool, cond-true, cond-false}
 use Rattle.plain_machine.specs.declared.request.Reply.TheVariants.{Refused}
 use Rattle.plain_machine.specs.declared.request.Failure.TheVariants.{Invalid}
-use Rattle.big_steps.specs.Devices.{Device}
-use Rattle.big_steps.specs.Snaps.{Snap, Volume}
-use Rattle.big_steps.specs.Pieces.{Answered, in_snap}
+use Rattle.whole_commands.specs.Devices.{Device}
+use Rattle.whole_commands.specs.Snaps.{Snap, Volume}
+use Rattle.whole_commands.specs.Pieces.{Answered, in_snap}
 use Rattle.event_machine.specs.Held.{SnapHeld}
 use Rattle.event_machine.specs.Stepping.{first_that}
-use Rattle.big_steps.proofs.Each.{Each}
-use Rattle.big_steps.specs.Saving.{Saving}
+use Rattle.whole_commands.proofs.Each.{Each}
+use Rattle.whole_commands.specs.Saving.{Saving}
 
 pub record IsSplit {X : Type 0} (test : X → Bool) (xs : List X) : Type 0 where
   pub done : List X

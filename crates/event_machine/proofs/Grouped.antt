@@ -4,7 +4,7 @@ use Rattle.std.specs.Prelude.{◌==◌, ◌&&◌}
 use Rattle.std.proofs.lemmas.Bool.{cases_eq, ne_eqb, cond-true, cond-false}
 use Rattle.std.proofs.lemmas.List.{length-take, length-drop, take-append-drop, drop-append-le}
 use Rattle.sector.specs.declared.pair.Pair.{Pair}
-use Rattle.big_steps.specs.Merges.{follows, rise_from, last_run}
+use Rattle.whole_commands.specs.Merges.{follows, rise_from, last_run}
 
 -- the last of some pairs, or another where there is none
 abbrev last_or : Pair → List Pair → Pair

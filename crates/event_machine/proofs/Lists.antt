@@ -6,7 +6,7 @@ use Rattle.in_flight.specs.Due.{first_by, least}
 use Rattle.event_machine.specs.Held.{SnapHeld}
 use Rattle.event_machine.specs.Due.{least_in}
 use Rattle.event_machine.specs.Stepping.{first_that, with_first}
-use Rattle.big_steps.proofs.Each.{Each}
+use Rattle.whole_commands.proofs.Each.{Each}
 
 -- a number is itself
 pub same_number : (n : ℕ) (b : Bool) → ((n == n) && b) ≡ b

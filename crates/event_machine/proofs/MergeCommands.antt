@@ -3,13 +3,13 @@ use Rattle.std.proofs.Common.{◌≡◌, ◌⊎◌, inl, inr, ℕ, ◌*◌, ◌/
 use Rattle.std.specs.Prelude.{◌==◌, ◌&&◌, not, nat_lt, is_some, if◌then◌else◌}
 use Rattle.std.proofs.lemmas.Bool.{cases_Bool, cond-true, cond-false, lt-ltb}
 use Rattle.sector.specs.declared.pair.Pair.{Pair}
-use Rattle.store_bytes.specs.Pairs.{pairs_of}
+use Rattle.cow_format.specs.Pairs.{pairs_of}
 use Rattle.volume_laws.specs.MergeDue.{is_none}
-use Rattle.big_steps.specs.Saves.{next_of}
-use Rattle.big_steps.specs.Snaps.{Snap, Volume}
-use Rattle.big_steps.specs.Attaching.{detached}
-use Rattle.big_steps.specs.Merges.{Merge, Merged, merge_of, pairs_in, snap_named, begun_with, begun as begun_big, resumed_by, resumed as resumed_big, finished_by, finished as finished_big}
-use Rattle.big_steps.proofs.Each.{Each, each_from, all_from}
+use Rattle.whole_commands.specs.Saves.{next_of}
+use Rattle.whole_commands.specs.Snaps.{Snap, Volume}
+use Rattle.whole_commands.specs.Attaching.{detached}
+use Rattle.whole_commands.specs.Merges.{Merge, Merged, merge_of, pairs_in, snap_named, begun_with, begun as begun_big, resumed_by, resumed as resumed_big, finished_by, finished as finished_big}
+use Rattle.whole_commands.proofs.Each.{Each, each_from, all_from}
 use Rattle.event_machine.specs.Held.{SnapHeld, MergeHeld, Moving, group_in, with_merge}
 use Rattle.event_machine.specs.Stepping.{for_some, first_that, without_first}
 use Rattle.event_machine.specs.MergeDue.{is_finished}

@@ -7,13 +7,13 @@ use Rattle.sector.specs.declared.pair.Pair.{Pair}
 use Rattle.device.specs.Layers.{Layer}
 use Rattle.device.specs.declared.operation.Operation.{Operation}
 use Rattle.device.specs.declared.operation.Operation.TheVariants.{Reads, Writes, Flushes}
-use Rattle.store_bytes.specs.Places.{area_place}
+use Rattle.cow_format.specs.Places.{area_place}
 use Rattle.in_flight.specs.Copies.{count_of}
 use Rattle.volume_laws.specs.Books.{MergeBooks}
 use Rattle.volume_laws.specs.MergeDue.{last_of}
 use Rattle.volume_laws.specs.MergeSteps.{without_group, FormsGroup, ReadsBack, WritesBack, FlushesBack, CommitsGroup, ReleasesGroup, ReadsArea, FailsMerge, Resumes, WritesStore}
-use Rattle.big_steps.specs.Devices.{Device, sectors_of, answers, met, written_by}
-use Rattle.big_steps.specs.Merges.{last_run, without_slots}
+use Rattle.whole_commands.specs.Devices.{Device, sectors_of, answers, met, written_by}
+use Rattle.whole_commands.specs.Merges.{last_run, without_slots}
 use Rattle.event_machine.specs.Held.{MergeHeld, Moving, on_device, with_merge}
 use Rattle.event_machine.specs.Again.{rerouted}
 use Rattle.event_machine.specs.MergeDue.{in_area}

@@ -14,13 +14,13 @@ use Rattle.volume_laws.specs.Again.{merged_place as place_in_books, new_route, a
 use Rattle.volume_laws.specs.Waits.{is_grouped as grouped_in_books}
 use Rattle.volume_laws.specs.MergeDue.{is_none, last_of, due_or, can_group as groups, can_read_area as reads_area, can_read as reads, can_write as writes, can_release as releases, is_readable as readable, is_writable as writable, is_copied as all_copied, merge_due as due_in_books, due_with}
 use Rattle.volume_laws.specs.Due.{books_of, due_of}
-use Rattle.big_steps.specs.Devices.{Device, sectors_of}
+use Rattle.whole_commands.specs.Devices.{Device, sectors_of}
 use Rattle.event_machine.specs.Held.{Going, MergeHeld, group_in}
 use Rattle.event_machine.specs.Again.{again, is_grouped, merged_place, write_route}
 use Rattle.event_machine.specs.MergeDue.{in_area, is_free, can_group, can_read_area, can_read, can_write, can_release, is_readable, is_writable, is_using, is_writing, is_copied, merge_due, due_all}
 use Rattle.event_machine.specs.Seen.{Seen, going_of, held_of, due_in, NeedsAsSeen}
 use Rattle.event_machine.specs.MergeSeen.{MergeSeen, merge_held_of, held_in, books_in, merging_as, IsFilledAsSeen}
-use Rattle.big_steps.proofs.Each.{Each}
+use Rattle.whole_commands.proofs.Each.{Each}
 use Rattle.event_machine.proofs.Tied.{any_map, clear_seen, clear_over_seen, due_tied, seen_alike}
 
 module _ (s : MergeSeen) where

@@ -14,12 +14,12 @@ use Rattle.in_flight.specs.declared.flights.Flight.{Flight}
 use Rattle.volume_laws.specs.Due.{DueSnap, snap_number, can_mark as marks_in, can_flush_store as flushes_in, can_commit as commits, can_zero as zeroes, copy_of, publishable_of, least_of, due_of}
 use Rattle.volume_laws.specs.Published.{is_saved as is_saved_in, is_clear as is_clear_in, is_saved_over as is_saved_over_in, is_clear_over as is_clear_over_in}
 use Rattle.volume_laws.specs.Again.{placed_of, again_of}
-use Rattle.big_steps.specs.Devices.{Device}
+use Rattle.whole_commands.specs.Devices.{Device}
 use Rattle.event_machine.specs.Held.{SnapHeld, Going, number_of, is_untried}
 use Rattle.event_machine.specs.Due.{is_front_ready, is_front_unflushed, can_mark, can_flush_store, can_commit, can_zero, is_at, number_of_copying, copy_at, is_reading, is_publishable, publishable_in, is_issuable, number_of_going, least_in, chosen, due}
 use Rattle.event_machine.specs.Again.{again, placed, refused, is_saved, is_clear, is_saved_over, is_clear_over}
 use Rattle.event_machine.specs.Seen.{Seen, copying_of, going_of, held_of, due_in, moving_of, NeedsAsSeen}
-use Rattle.big_steps.proofs.Each.{Each}
+use Rattle.whole_commands.proofs.Each.{Each}
 use Rattle.event_machine.proofs.Around.{at}
 
 -- a test and a number that are seen alike

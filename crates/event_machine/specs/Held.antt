@@ -8,9 +8,9 @@ use Rattle.in_flight.specs.declared.copies.Stage.{Stage}
 use Rattle.in_flight.specs.declared.copies.Mark.{Mark}
 use Rattle.in_flight.specs.Flushed.{flushed_stage, safe_mark}
 use Rattle.in_flight.specs.declared.flights.Route.{Route}
-use Rattle.big_steps.specs.Devices.{Device}
-use Rattle.big_steps.specs.Snaps.{Snap}
-use Rattle.big_steps.specs.Merges.{Merge}
+use Rattle.whole_commands.specs.Devices.{Device}
+use Rattle.whole_commands.specs.Snaps.{Snap}
+use Rattle.whole_commands.specs.Merges.{Merge}
 
 -- a copy that is not committed: its number, its pair, how far it is, and the bytes that were read, none while it waits
 pub record Copying : Type 0 where

@@ -8,7 +8,7 @@ use Rattle.plain_machine.specs.declared.event.Event.TheVariants.{MergeGroup, Mer
 use Rattle.in_flight.specs.Copies.{count_of}
 use Rattle.in_flight.specs.Kinds.{kind_of}
 use Rattle.volume_laws.specs.MergeDue.{is_none, last_of, next_pair, goes_to, writes_to, one_of, due_or}
-use Rattle.big_steps.specs.Devices.{sectors_of}
+use Rattle.whole_commands.specs.Devices.{sectors_of}
 use Rattle.event_machine.specs.Held.{SnapHeld, Going, MergeHeld, Moving, group_in}
 use Rattle.event_machine.specs.Again.{is_clear_over}
 use Rattle.event_machine.specs.Due.{due}

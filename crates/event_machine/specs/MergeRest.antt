@@ -1,8 +1,8 @@
 -- A volume with a merge between two requests, and between two groups of its merge.
 use Rattle.std.specs.Prelude.{◌≡◌, ℕ, ◌*◌, [], length, map, Option, Some, None}
 use Rattle.std.specs.List.{All}
-use Rattle.store_bytes.specs.Pairs.{pairs_of}
-use Rattle.big_steps.specs.Merges.{Merge, Merged, Merging}
+use Rattle.cow_format.specs.Pairs.{pairs_of}
+use Rattle.whole_commands.specs.Merges.{Merge, Merged, Merging}
 use Rattle.event_machine.specs.Held.{SnapHeld, MergeHeld, Moving}
 use Rattle.event_machine.specs.MergeStepping.{without_group}
 use Rattle.event_machine.specs.Requests.{volume_of}

@@ -7,7 +7,7 @@ use Rattle.in_flight.specs.Copies.{count_of}
 use Rattle.in_flight.specs.declared.flights.Flight.{Flight}
 use Rattle.volume_laws.specs.Books.{MergeBooks}
 use Rattle.volume_laws.specs.MergeDue.{DueMerge}
-use Rattle.big_steps.specs.Devices.{Device}
+use Rattle.whole_commands.specs.Devices.{Device}
 use Rattle.event_machine.specs.Held.{MergeHeld, Moving, with_merge}
 use Rattle.event_machine.specs.Seen.{Seen, moving_of}
 

@@ -5,13 +5,13 @@ use Rattle.chunk.specs.Pieces.{Span}
 use Rattle.plain_machine.specs.declared.request.Dev.{Dev}
 use Rattle.plain_machine.specs.declared.request.Op.{Op}
 use Rattle.plain_machine.specs.declared.request.Op.TheVariants.{Read, Write, Flush}
-use Rattle.big_steps.specs.Merges.{Merged, Merging, write_part, read_part, flushed_through}
+use Rattle.whole_commands.specs.Merges.{Merged, Merging, write_part, read_part, flushed_through}
 use Rattle.event_machine.specs.Held.{MergeHeld, Moving}
 use Rattle.event_machine.specs.Due.{due}
 use Rattle.event_machine.specs.MergeDue.{due_all}
 use Rattle.event_machine.specs.MergeRest.{merged_of, in_big_steps, IsMergedAtRest, IsBetween}
 use Rattle.event_machine.specs.Settles.{settle, settle_all}
-use Rattle.big_steps.specs.Pieces.{Answered}
+use Rattle.whole_commands.specs.Pieces.{Answered}
 
 -- A volume of so many sectors settles to this: after so many events, and after any more, nothing is due, no request is in
 -- flight and no group is formed, its devices, its snapshots and its merge are these, and no reply is given.

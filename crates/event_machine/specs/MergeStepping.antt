@@ -8,11 +8,11 @@ use Rattle.device.specs.declared.operation.Operation.{Operation}
 use Rattle.device.specs.declared.operation.Operation.TheVariants.{Reads, Writes, Flushes}
 use Rattle.plain_machine.specs.declared.event.Event.{Event}
 use Rattle.plain_machine.specs.declared.event.Event.TheVariants.{Publish, MergeGroup, MergeAreaRead, MergeRead, MergeWrite, MergeFlush, MergeCommit, MergeRelease}
-use Rattle.store_bytes.specs.Places.{area_place}
+use Rattle.cow_format.specs.Places.{area_place}
 use Rattle.in_flight.specs.Copies.{count_of}
 use Rattle.volume_laws.specs.MergeDue.{last_of}
-use Rattle.big_steps.specs.Devices.{sectors_of, answers, met, written_by}
-use Rattle.big_steps.specs.Merges.{Merge, last_run, without_slots}
+use Rattle.whole_commands.specs.Devices.{sectors_of, answers, met, written_by}
+use Rattle.whole_commands.specs.Merges.{Merge, last_run, without_slots}
 use Rattle.event_machine.specs.Held.{MergeHeld, Moving, on_device, with_merge}
 use Rattle.event_machine.specs.Again.{next_over, rerouted}
 use Rattle.event_machine.specs.MergeDue.{in_area, next_of, can_group, can_read_area, can_read, can_write, can_flush, can_commit_group, can_release}

@@ -3,9 +3,9 @@ use Rattle.std.specs.Prelude.{ℕ, ◌+◌, ◌*◌, ◌/◌, ◌<◌, ◌≤◌
 use Rattle.std.specs.List.{All}
 use Rattle.sector.specs.declared.range.Range.{Range}
 use Rattle.plain_machine.specs.declared.request.Request.{Request}
-use Rattle.big_steps.specs.Snaps.{Volume}
+use Rattle.whole_commands.specs.Snaps.{Volume}
 use Rattle.event_machine.specs.Held.{SnapHeld, Moving}
-use Rattle.big_steps.specs.Requests.{FitsRange}
+use Rattle.whole_commands.specs.Requests.{FitsRange}
 
 -- the volume's devices and snapshots
 abbrev pub volume_of : Moving → Volume

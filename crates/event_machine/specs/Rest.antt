@@ -1,9 +1,9 @@
 -- A volume between two requests.
 use Rattle.std.specs.Prelude.{◌≡◌, ℕ, ◌*◌, true, false, [], length, None}
 use Rattle.std.specs.List.{All}
-use Rattle.store_bytes.specs.Pairs.{pairs_of}
-use Rattle.big_steps.specs.Saves.{next_of}
-use Rattle.big_steps.specs.Order.{IsInOrder}
+use Rattle.cow_format.specs.Pairs.{pairs_of}
+use Rattle.whole_commands.specs.Saves.{next_of}
+use Rattle.whole_commands.specs.Order.{IsInOrder}
 use Rattle.event_machine.specs.Held.{SnapHeld, Moving}
 
 -- A live snapshot of an origin of so many sectors: its store is in order, its pairs and its next place are those of the

@@ -10,7 +10,7 @@ use Rattle.in_flight.specs.declared.copies.Stage.TheVariants.{Waiting}
 use Rattle.in_flight.specs.declared.flights.Flight.{Flight}
 use Rattle.in_flight.specs.Due.{is_stage, front_ready}
 use Rattle.volume_laws.specs.Due.{DueSnap}
-use Rattle.big_steps.specs.Devices.{Device}
+use Rattle.whole_commands.specs.Devices.{Device}
 use Rattle.event_machine.specs.Held.{Copying, SnapHeld, Going, Moving}
 use Rattle.event_machine.specs.Due.{needs_area, waits_for_area}
 

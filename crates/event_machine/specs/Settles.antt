@@ -1,14 +1,14 @@
 -- A volume settles: the event that is due first is done, until none is due; and what it has settled to.
 use Rattle.std.specs.Prelude.{◌≡◌, ℕ, ◌+◌, zero, suc, Option, Some, None, map}
 use Rattle.plain_machine.specs.declared.event.Event.{Event}
-use Rattle.big_steps.specs.Pieces.{Answered}
+use Rattle.whole_commands.specs.Pieces.{Answered}
 use Rattle.event_machine.specs.Held.{SnapHeld, Moving}
 use Rattle.event_machine.specs.Due.{due}
 use Rattle.event_machine.specs.Stepping.{for_some, stepped}
 use Rattle.event_machine.specs.MergeDue.{due_all}
 use Rattle.event_machine.specs.MergeStepping.{stepped_all}
 use Rattle.event_machine.specs.Rest.{IsAtRest}
-use Rattle.big_steps.specs.Snaps.{Volume}
+use Rattle.whole_commands.specs.Snaps.{Volume}
 
 -- after so many events at most, each chosen so, and each doing this
 abbrev pub settle_by : (Moving → Option Event) → (Event → Moving → Moving) → ℕ → Moving → Moving

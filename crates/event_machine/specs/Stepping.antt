@@ -15,17 +15,17 @@ use Rattle.plain_machine.specs.declared.request.Op.TheVariants.{Read as ReadOp, 
 use Rattle.plain_machine.specs.declared.request.Reply.{Reply}
 use Rattle.plain_machine.specs.declared.request.Reply.TheVariants.{Written as Done, Flushed, Refused as Declined}
 use Rattle.plain_machine.specs.declared.request.Failure.TheVariants.{Invalid, Io}
-use Rattle.store_bytes.specs.Places.{area_place}
-use Rattle.store_bytes.specs.Slots.{pair_bytes}
+use Rattle.cow_format.specs.Places.{area_place}
+use Rattle.cow_format.specs.Slots.{pair_bytes}
 use Rattle.in_flight.specs.Copies.{count_of}
 use Rattle.in_flight.specs.declared.copies.Stage.{Stage}
 use Rattle.in_flight.specs.declared.copies.Stage.TheVariants.{Waiting, Read, Written}
 use Rattle.in_flight.specs.declared.copies.Mark.{Mark}
 use Rattle.in_flight.specs.declared.flights.Route.{Route}
 use Rattle.in_flight.specs.declared.flights.Route.TheVariants.{Held as Waits, Origin, Store, Whole, Refused}
-use Rattle.big_steps.specs.Saves.{marked, zeroed}
-use Rattle.big_steps.specs.Devices.{Device, sectors_of, answers, met, written_by, read_reply, flush_reply}
-use Rattle.big_steps.specs.Saving.{lacks_area}
+use Rattle.whole_commands.specs.Saves.{marked, zeroed}
+use Rattle.whole_commands.specs.Devices.{Device, sectors_of, answers, met, written_by, read_reply, flush_reply}
+use Rattle.whole_commands.specs.Saving.{lacks_area}
 use Rattle.event_machine.specs.Held.{Copying, SnapHeld, Going, MergeHeld, Moving, with_store, spoiled, flushed_held, on_device, with_merge}
 use Rattle.event_machine.specs.Due.{filled_of, batch_of, can_mark, can_flush_store, can_commit, can_zero, is_at, is_publishable, is_issuable}
 use Rattle.event_machine.specs.Again.{placed, refused, rerouted}

@@ -8,8 +8,8 @@ use Rattle.plain_machine.specs.declared.request.Request.{Request}
 use Rattle.plain_machine.specs.declared.request.Reply.TheVariants.{Refused as Declined}
 use Rattle.plain_machine.specs.declared.request.Failure.{Failure}
 use Rattle.plain_machine.specs.declared.request.Failure.TheVariants.{Invalid, Overflow}
-use Rattle.store_bytes.specs.NextPlace.{stepped as stepped_place}
-use Rattle.store_bytes.specs.Picture.{place_of}
+use Rattle.cow_format.specs.NextPlace.{stepped as stepped_place}
+use Rattle.cow_format.specs.Picture.{place_of}
 use Rattle.in_flight.specs.Kinds.{kind_of}
 use Rattle.in_flight.specs.Routes.{read_route_of, flush_route_of}
 use Rattle.in_flight.specs.declared.copies.Stage.TheVariants.{Waiting}

@@ -3,7 +3,7 @@ use Rattle.std.proofs.Common.{◌≡◌, ◌≢◌, inl, inr, ℕ, zero, suc, �
 use lib.Dec.{eqb}
 use Rattle.std.proofs.lemmas.Bool.{cases_eq, cases_lt, cond-true, cond-false, eq-eqb, ne_eqb}
 use Rattle.std.proofs.lemmas.List.{get_or-set_same, get_or-set_other, get_or_append_left, get_or_at, length-set, length-append, length-map, drop_all, take-map}
-use Rattle.store_bytes.specs.Picture.{place_of}
+use Rattle.cow_format.specs.Picture.{place_of}
 use Rattle.exception_arena.specs.Links.{nowhere, to, node_at, pair_of, pairs_on, head_at, newest, AreHung}
 use Rattle.exception_arena.specs.declared.link.Link.{Link}
 use Rattle.exception_arena.specs.declared.node.Node.{Node}

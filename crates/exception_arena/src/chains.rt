@@ -1,7 +1,7 @@
 // The committed pairs: a chain of nodes for each bucket of old chunks, and the buckets' heads. The newest node of a bucket
 // comes first.
 ghost use Rattle.std.specs.Prelude.{◌≡◌, ◌+◌, ◌-◌, ◌<◌, ◌≤◌, ◌%◌, ◌^◌, ◌∷◌, [], ◌++◌, IfErr, OnOk, length, take, vec_capacity};
-ghost use Rattle.store_bytes.specs.Picture.{place_of};
+ghost use Rattle.cow_format.specs.Picture.{place_of};
 ghost use Rattle.exception_arena.specs.Links.{pairs_on, AreHung};
 ghost use Rattle.exception_arena.specs.Arenas.{HasRoom};
 ghost use Rattle.sector.specs.declared.refusal.Refusal.TheVariants.{NoMemory};

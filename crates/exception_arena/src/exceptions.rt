@@ -2,7 +2,7 @@
 ghost use Rattle.std.specs.Prelude.{◌≡◌, ℕ, ◌+◌, ◌-◌, ◌<◌, ◌≤◌, ◌^◌, List, [], ◌∷◌, ◌++◌, length, take, IfErr, IfSome, IsSome, None, OnOk, OnErr, slice_index_or};
 ghost use Rattle.sector.specs.declared.pair.Pair.{Pair};
 ghost use Rattle.sector.specs.declared.refusal.Refusal.TheVariants.{NoMemory};
-ghost use Rattle.store_bytes.specs.Picture.{place_of};
+ghost use Rattle.cow_format.specs.Picture.{place_of};
 ghost use Rattle.exception_arena.specs.Pending.{begun_under, without};
 ghost use Rattle.exception_arena.specs.declared.begun.Begun.{Begun};
 ghost use Rattle.exception_arena.specs.Keeping.{Keeps};

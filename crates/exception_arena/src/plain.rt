@@ -1,7 +1,7 @@
 // The plain form: two vectors, the committed and the pending pairs, searched from the front and grown by `reserve` alone.
 ghost use Rattle.std.specs.Prelude.{◌≡◌, ℕ, [], ◌∷◌, ◌+◌, ◌^◌, ◌<◌, ◌≤◌, length, vec_capacity, IsSome, IfSome, slice_index_or, IsTrue};
 ghost use Rattle.std.specs.List.{All, remove};
-ghost use Rattle.store_bytes.specs.Picture.{place_of};
+ghost use Rattle.cow_format.specs.Picture.{place_of};
 ghost use Rattle.exception_arena.specs.Pending.{begun_under, without};
 ghost use Rattle.sector.specs.declared.pair.Pair.{Pair};
 ghost use Rattle.exception_arena.specs.declared.begun.Begun.{Begun};

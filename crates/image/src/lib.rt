@@ -1,6 +1,6 @@
 //! Images of devices: bytes that are read at an offset, from memory, or from one that fails once; sinks, to which bytes are
 //! written one after the other; and sets of two files with volatile caches, which are read, written by whole sectors and
-//! synced. It stands on `sector`, in whose terms sectors are said. Over files of a disk they are in `image_files`.
+//! synced. It stands on `sector`, in whose terms sectors are said. Over files of a disk they are in `images_on_files`.
 //!
 //! It promises that a read gives the bytes at its offset, that a write adds its bytes or a front of them, and of a set of files
 //! what a stop at any moment may leave of each sector, wherever the bytes are known: what a file holds is known to no contract.

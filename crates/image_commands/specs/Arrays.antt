@@ -1,6 +1,6 @@
 -- What the snapshot of a store shows, and where a read of it may fail.
 use Rattle.std.specs.Prelude.{ℕ, Bool, false, List, []}
-use Rattle.store_bytes.specs.Picture.{picture}
+use Rattle.cow_format.specs.Picture.{picture}
 use Rattle.cow_nbd.specs.Shows.{FailsAt, FailsFresh, has_copy}
 use Rattle.cow_image.specs.declared.found.Told.{Told}
 use Rattle.cow_image.specs.declared.found.Told.TheVariants.{Fresh, Refused, Written}

@@ -2,14 +2,14 @@
 ghost use Rattle.std.specs.Prelude.{◌<◌, ◌≤◌, IfOk};
 
 use crate::printing::printed;
-use cow_answers::{
+use cow_image::{MAX_IMAGE, Reason, Told, read_slots};
+use cow_reports::{
     Behind, Seen, all_faults, checked, chunk_listed, chunk_of, is_good, look, mapped, notes_of,
     push_behind, raw, shown,
 };
-use cow_image::{MAX_IMAGE, Reason, Told, read_slots};
 use cow_salvage::read_used;
-use image_answers::told_human;
-use image_words::{Form, Telling};
+use image_options::{Form, Telling};
+use image_reports::told_human;
 use opened_files::{Input, Inputs, Trouble, held, of_input, size_of};
 use std::alloc::AllocError;
 use std::io::Write;

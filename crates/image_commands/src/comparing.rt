@@ -2,9 +2,9 @@
 
 use crate::printing::printed;
 use cow_image::Failure;
-use image_answers::compared;
 use image_compare::compare as compare_images;
-use image_words::{Form, Telling};
+use image_options::{Form, Telling};
+use image_reports::compared;
 use opened_files::{Input, Trouble, held, size_of};
 use std::io::Write;
 

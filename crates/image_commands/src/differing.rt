@@ -2,17 +2,17 @@
 ghost use Rattle.std.specs.Prelude.{◌≡◌, ℕ, ◌*◌, ◌≤◌, List, length, true, IfOk, Some};
 ghost use Rattle.cow_image.specs.Maps.{IsToldOf};
 ghost use Rattle.cow_salvage.specs.Differences.{AreDifferences};
-ghost use Rattle.cow_answers.specs.Answers.{is_good as is_good_by};
+ghost use Rattle.cow_reports.specs.Answers.{is_good as is_good_by};
 ghost use Rattle.image_commands.specs.Differing.{differing_by};
 ghost use Rattle.image_commands.specs.Arrays.{array_of};
 
 use crate::commands::{put_text, seen_both};
 use crate::rolling::of_put;
-use cow_answers::{push_spans, push_spans_json, shown};
 use cow_image::{Stopped, Told};
+use cow_reports::{push_spans, push_spans_json, shown};
 use cow_salvage::{Span, Undone, differences};
 use image::Image;
-use image_words::{Form, Telling};
+use image_options::{Form, Telling};
 use opened_files::{Inputs, Trouble};
 use std::alloc::{AllocError, Global};
 use std::io::Write;

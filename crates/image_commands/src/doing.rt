@@ -14,7 +14,7 @@ use crate::salvaging::{Salvage, salvage_array};
 use crate::seaming::{hear, spell};
 use crate::serving::serve;
 use crate::storing;
-use image_words::{Asked, HELP, Telling, VERSION, topic};
+use image_options::{Asked, HELP, Telling, VERSION, topic};
 use opened_files::Trouble;
 use std::io::{BufRead, Write};
 

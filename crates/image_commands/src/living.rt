@@ -5,8 +5,8 @@ use crate::serving::of_served;
 use cow_header::{Found, decode};
 use cow_image::read_first;
 use cow_nbd::{LivePicture, serve_live};
-use live_snapshot::{LiveSnapshot, Lost};
 use opened_files::{Input, LiveInputs, Trouble, Why, of_input, size_of};
+use read_beside_writer::{LiveSnapshot, Lost};
 use std::io::{Read, Write};
 
 /// Serves a snapshot that is in use to the client on standard input and output. Once it is lost, no bytes are given any more, and

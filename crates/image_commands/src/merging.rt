@@ -3,12 +3,12 @@
 use crate::commands::seen_both;
 use crate::ended::Ended;
 use crate::printing::printed;
-use cow_answers::{Seen, is_good, push_bytes, push_left, push_runs, shown};
 use cow_image::{CowMap, Told, read_store};
 use cow_merge::{ORIGIN, Room, Stopped};
+use cow_reports::{Seen, is_good, push_bytes, push_left, push_runs, shown};
 use file_calls::DiskFile;
-use image_files::{Asked, DiskFiles, OriginFile, StoreFile};
-use image_words::{Form, Telling};
+use image_options::{Form, Telling};
+use images_on_files::{Asked, DiskFiles, OriginFile, StoreFile};
 use opened_files::{InPlace, Input, Teller, Trouble, WatchedFile, Why, held, name_lasts, of_input};
 use std::alloc::{AllocError, Global};
 use std::io;

@@ -1,19 +1,19 @@
 // What is told of a store over its origin.
 ghost use Rattle.std.specs.Prelude.{◌≡◌, ◌+◌, ◌-◌, ◌*◌, ◌/◌, ◌<◌, ◌≤◌, IfOk};
-ghost use Rattle.cow_ranges.specs.Ranges.{AreRanges};
-ghost use Rattle.cow_picture.specs.Cells.{AreCells};
+ghost use Rattle.snapshot_extents.specs.Ranges.{AreRanges};
+ghost use Rattle.map_drawing.specs.Cells.{AreCells};
 ghost use Rattle.image_commands.specs.Maps.{chunk_told as chunk_told_by, pairs_told};
 
 use crate::commands::{put_text, seen_both};
 use crate::seaming::put_file;
-use cow_answers::{Seen, is_good, shown};
 use cow_image::{MAX_IMAGE, Told};
-use cow_picture::{Cells, cell_drawing, cell_rows, count_cells};
-use cow_ranges::{Range, ranges};
-use image_answers::{ranged, table_lines};
-use image_words::{Form, Telling};
+use cow_reports::{Seen, is_good, shown};
+use image_options::{Form, Telling};
+use image_reports::{ranged, table_lines};
+use map_drawing::{Cells, cell_drawing, cell_rows, count_cells};
 use opened_files::{Inputs, Trouble, held};
 use sector::Pair;
+use snapshot_extents::{Range, ranges};
 use std::alloc::{AllocError, Global};
 use std::io::Write;
 

@@ -5,14 +5,14 @@ ghost use Rattle.chunk.specs.Sizes.{is_chunk};
 use crate::rolling::of_put;
 use crate::salvaging::{Lost, Salvage, all_read, taken, tell, unread};
 use chunk::is_chunk_size;
-use cow_answers::{Seen, chunk_listed, is_good, look};
 use cow_image::MAX_IMAGE;
+use cow_reports::{Seen, chunk_listed, is_good, look};
 use cow_salvage::{Blanked, Saved, Used, front_of, read_used};
+use new_store_files::repair;
 use opened_files::{
     Input, Trouble, Watched, Why, about, file_begun, file_ended, is_free, of_input, size_of,
 };
 use std::io::Write;
-use store_writer::repair;
 
 /// Writes a new store of the pairs that a salvage of one keeps, and prints which they are. Of a store that is good, where nothing else
 /// is asked, it prints nothing.

@@ -4,9 +4,9 @@ ghost use Rattle.std.specs.Prelude.{◌≤◌};
 use crate::array::put_array;
 use crate::commands::seen_both;
 use crate::printing::told_beside;
-use cow_answers::{Seen, is_good, shown};
 use cow_image::{Failure, MAX_IMAGE, Stopped, Told, read_store};
-use image_words::{Form, Telling};
+use cow_reports::{Seen, is_good, shown};
+use image_options::{Form, Telling};
 use opened_files::{
     Input, Inputs, Trouble, Watched, Why, about, file_begun, file_ended, held, of_input,
 };

@@ -3,8 +3,8 @@ ghost use Rattle.std.specs.Prelude.{◌≡◌};
 
 use crate::doing::done;
 use crate::ended::{Ended, status_of};
-use command_line::program_words;
-use image_words::{Asked, Telling, Wrong, words_ask, words_tell};
+use image_options::{Asked, Telling, Wrong, words_ask, words_tell};
+use option_parser::program_words;
 use std::io;
 use std::io::{BufRead, Write};
 

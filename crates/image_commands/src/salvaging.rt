@@ -3,10 +3,10 @@ ghost use Rattle.std.specs.Prelude.{◌<◌, ◌≤◌, IfSome};
 
 use crate::printing::told_beside;
 use crate::rolling::{of_put, put_seen, roll};
-use cow_answers::{Seen, chunk_listed, is_good, is_whole, look, notes_of, salvaged};
 use cow_image::{MAX_IMAGE, Told};
+use cow_reports::{Seen, chunk_listed, is_good, is_whole, look, notes_of, salvaged};
 use cow_salvage::{Blanked, Saved, Slot, Span, Used, export_kept, front_of, read_used, unreadable};
-use image_words::{Form, Telling};
+use image_options::{Form, Telling};
 use opened_files::{
     Input, Inputs, Trouble, Watched, about, file_begun, file_ended, held, of_input, size_of,
 };

@@ -1,8 +1,8 @@
 // An image goes into a text of commands, and comes back from answers.
 
 use image::Sink;
-use image_script::{MOST_SECTORS, Stopped, Untold, put_words, read_told};
-use image_words::Telling;
+use image_options::Telling;
+use image_to_dmrig::{MOST_SECTORS, Stopped, Untold, put_words, read_told};
 use opened_files::{
     Input, OUTPUT, Trouble, Watched, Why, about, file_begun, file_ended, is_free, size_of,
 };

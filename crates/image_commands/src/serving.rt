@@ -3,15 +3,15 @@ ghost use Rattle.std.specs.Prelude.{◌≡◌, ℕ, ◌*◌, ◌≤◌, List, le
 ghost use Rattle.cow_image.specs.Maps.{IsToldOf};
 ghost use Rattle.cow_nbd.specs.Shows.{IsServedBy, OrChanged};
 ghost use Rattle.image_commands.specs.Arrays.{array_of, marks_of, FailsTold};
-ghost use Rattle.cow_answers.specs.Answers.{is_good};
+ghost use Rattle.cow_reports.specs.Answers.{is_good};
 
 use crate::commands::seen_both;
-use cow_answers::shown;
 use cow_image::Told;
 use cow_nbd::{Watch, serve_fresh, serve_written};
+use cow_reports::shown;
 use image::Image;
-use image_words::{Form, Telling};
-use nbd_server::Stopped;
+use image_options::{Form, Telling};
+use nbd_read_session::Stopped;
 use opened_files::{Inputs, Trouble, Why, Witness, held};
 use std::alloc::Global;
 use std::io::{Read, Write};

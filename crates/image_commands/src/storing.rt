@@ -5,10 +5,10 @@ ghost use Rattle.chunk.specs.Sizes.{is_chunk};
 use crate::rolling::of_put;
 use chunk::is_chunk_size;
 use cow_image::MAX_IMAGE;
-use image_words::Telling;
+use image_options::Telling;
+use new_store_files::write_between;
 use opened_files::{Inputs, Trouble, Watched, Why, about, file_begun, file_ended, size_of};
 use std::io::Write;
-use store_writer::write_between;
 
 /// The words of it.
 #[derive(Clone, Copy, PartialEq, Eq)]

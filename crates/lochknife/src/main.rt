@@ -1,5 +1,5 @@
 //! The program `lochknife`: what the image of a snapshot's store holds, and the array that it shows with the image of its
-//! origin. It is `image_commands::run`, whose commands `lochknife_rows` runs with their files.
+//! origin. It is `image_commands::run`, whose commands `lochknife_tests` runs with their files.
 #![tactic(auto)]
 
 use std::process::ExitCode;

@@ -1,5 +1,5 @@
 //! The program that `lochknife` is for the words `new`, `take` and `serve`: a snapshot of a disk image in use. It is
-//! `serve_commands::run`, whose commands `serve_rows` runs with their files.
+//! `serve_commands::run`, whose commands `serve_tests` runs with their files.
 #![tactic(auto)]
 
 use std::process::ExitCode;

@@ -3,10 +3,10 @@ use Rattle.std.proofs.Common.{◌≡◌, ◌⊎◌, inl, inr, ℕ, Bool, List, [
 use Rattle.std.specs.List.{All}
 use Rattle.std.proofs.lemmas.List.{append_cancel_left}
 use Rattle.std.proofs.lemmas.List.Elements.{All-append, All-map, All-nil, All-push, All-same}
-use Rattle.audit.specs.declared.entry.Entry.{Entry}
-use Rattle.audit.specs.declared.entry.Entry.TheVariants.{Overflowed, Spoiled}
-use Rattle.audit.specs.Books.{AuditShape}
-use Rattle.audit.specs.PlacesTaken.{HasOverflowed, OnlySpoils}
+use Rattle.audited_volume.specs.declared.entry.Entry.{Entry}
+use Rattle.audited_volume.specs.declared.entry.Entry.TheVariants.{Overflowed, Spoiled}
+use Rattle.audited_volume.specs.Books.{AuditShape}
+use Rattle.audited_volume.specs.PlacesTaken.{HasOverflowed, OnlySpoils}
 use Rattle.plain_machine.specs.declared.request.Request.{Request}
 use Rattle.locked_volume.specs.declared.rule.View.{View}
 use Rattle.locked_volume.specs.AskedFor.{AddsAskedFor, IsAskedFor}

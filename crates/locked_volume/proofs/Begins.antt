@@ -1,6 +1,6 @@
 -- The first entries of a list.
 use Rattle.std.proofs.Common.{◌≡◌, List, [], ◌++◌, sym, ap, ◌∙◌, subst, append_assoc, append-nil}
-use Rattle.audit.specs.declared.entry.Entry.{Entry}
+use Rattle.audited_volume.specs.declared.entry.Entry.{Entry}
 use Rattle.locked_volume.specs.Keeping.{Begins}
 
 pub begins_same : (es : List Entry) → Begins es es

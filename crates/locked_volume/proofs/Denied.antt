@@ -5,7 +5,7 @@ use Rattle.std.specs.List.{list_any, position_or_len}
 use Rattle.std.proofs.lemmas.Bool.{cases_Bool, cases_lt, true≢false}
 use Rattle.std.proofs.lemmas.List.{length-map}
 use Rattle.device.specs.Layers.{Layer}
-use Rattle.store_bytes.specs.Picture.{picture}
+use Rattle.cow_format.specs.Picture.{picture}
 use Rattle.sector.specs.declared.range.Range.{Range}
 use Rattle.sector.specs.declared.refusal.Refusal.{Refusal}
 use Rattle.sector.specs.declared.refusal.Refusal.TheVariants.{Invalid as IsInvalid, JournalFull, MergingSnapshot, NoMemory, NoSuchDevice, NotQuiet, OutOfRange, Overflow as OverflowRefusal, TooMany, MergeInProgress}
@@ -33,11 +33,11 @@ use Rattle.volume.specs.Leaving.{is_quiet_of}
 use Rattle.volume.specs.Stepping.{KeepsAll, merged_of}
 use Rattle.volume.specs.Submitting.{IsFoundFull, IsOverflown, are_too_many, dev_refusal, first_of_two, is_merging, is_piece_of, limit_refusal, range_refusal, refusal_at, shut_at, shut_refusal, starting, submit_refusal}
 use Rattle.volume.specs.Volumed.{Volumed, piece_of, piece_with, plain_of}
-use Rattle.audit.specs.declared.entry.Entry.{Entry}
-use Rattle.audit.specs.Books.{AuditShape}
-use Rattle.audit.specs.PlacesTaken.{IsNotMerged, IsNotSubmitted, is_full_by, places_of}
-use Rattle.audit.specs.Noted.{kept_count, live_count, may_count}
-use Rattle.audit.specs.Replay.{replay}
+use Rattle.audited_volume.specs.declared.entry.Entry.{Entry}
+use Rattle.audited_volume.specs.Books.{AuditShape}
+use Rattle.audited_volume.specs.PlacesTaken.{IsNotMerged, IsNotSubmitted, is_full_by, places_of}
+use Rattle.audited_volume.specs.Noted.{kept_count, live_count, may_count}
+use Rattle.audited_volume.specs.Replay.{replay}
 use Rattle.locked_volume.specs.Denying.{Agrees, merged_number, IsClosed, IsCrowded, IsDenied, IsLost, IsMissing, IsOpen, IsShut, Begin, Serve, WasDenied, is_merged}
 use Rattle.locked_volume.specs.Fixed.{Fixed, StaysFrom, fixed_of, least_of, piece_at, piece_in}
 

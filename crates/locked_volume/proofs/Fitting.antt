@@ -8,10 +8,10 @@ use Rattle.plain_machine.specs.declared.event.Outcome.TheVariants.{Done, Fault, 
 use Rattle.plain_machine.specs.declared.request.Reply.{Reply}
 use Rattle.plain_machine.specs.declared.request.Request.{Request}
 use Rattle.volume.specs.Flying.{Fits, IsFlown, IsTakenOut}
-use Rattle.audit.specs.declared.entry.Receipt.{Receipt}
-use Rattle.audit.specs.Books.{AuditShape}
-use Rattle.audit.specs.PlacesTaken.{HasReceipt, IsNoted}
-use Rattle.audit.specs.Seats.{Seated, flight_in, seated_under}
+use Rattle.audited_volume.specs.declared.entry.Receipt.{Receipt}
+use Rattle.audited_volume.specs.Books.{AuditShape}
+use Rattle.audited_volume.specs.PlacesTaken.{HasReceipt, IsNoted}
+use Rattle.audited_volume.specs.Seats.{Seated, flight_in, seated_under}
 
 -- what a seat asked is asked of the volume
 seated_asked : (number : ℕ) (held : List Seated) (x : Seated) → seated_under number held ≡ Some x → asked_under number (map flight_in held) ≡ Some x.request

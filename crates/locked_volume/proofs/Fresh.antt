@@ -1,9 +1,9 @@
 -- What is new in a journal after a call, and what the keeper then knows.
 use Rattle.std.proofs.Common.{◌≡◌, ◌⊎◌, inl, inr, ℕ, zero, suc, ◌-◌, ◌<◌, true, List, [], ◌∷◌, ◌++◌, length, map, take, drop, get_or, refl, sym, ap, ◌∙◌, subst, arith, append_assoc}
-use Rattle.audit.specs.declared.entry.Entry.{Entry}
-use Rattle.audit.specs.declared.entry.Entry.TheVariants.{Overflowed, Spoiled}
-use Rattle.audit.specs.Books.{AuditShape}
-use Rattle.audit.specs.PlacesTaken.{HasOverflowed, OnlySpoils}
+use Rattle.audited_volume.specs.declared.entry.Entry.{Entry}
+use Rattle.audited_volume.specs.declared.entry.Entry.TheVariants.{Overflowed, Spoiled}
+use Rattle.audited_volume.specs.Books.{AuditShape}
+use Rattle.audited_volume.specs.PlacesTaken.{HasOverflowed, OnlySpoils}
 use Rattle.locked_volume.specs.Keeping.{is_silent}
 use Rattle.plain_machine.specs.declared.request.Request.{Request}
 

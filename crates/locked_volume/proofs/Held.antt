@@ -1,7 +1,7 @@
 -- A seat's requests in flight, as requests come and go.
 use Rattle.std.proofs.Common.{◌≡◌, ◌≢◌, ℕ, ◌==◌, Bool, true, false, if◌then◌else◌, List, [], ◌∷◌, ◌++◌, Option, Some, None, refl, sym, ap, ◌∙◌, eq-eqb}
 use Rattle.std.proofs.lemmas.Bool.{ne_eqb}
-use Rattle.audit.specs.Seats.{Seated, seated_under, without_seated}
+use Rattle.audited_volume.specs.Seats.{Seated, seated_under, without_seated}
 use Rattle.locked_volume.specs.Keeping.{held_by}
 
 in_front : (b : Bool) (a : Seated) (xs ys : List Seated) → (if b then (a ∷ (xs ++ ys)) else (xs ++ ys)) ≡ (if b then (a ∷ xs) else xs) ++ ys

@@ -6,11 +6,11 @@ use Rattle.std.proofs.lemmas.Bool.{ne_eqb}
 use Rattle.std.proofs.lemmas.List.{length-set}
 use Rattle.atomic_table.proofs.Lists.{at_set}
 use Rattle.atomic_table.specs.Table.{Me, keeps, step, Allows, Splits, Joins}
-use Rattle.audit.specs.declared.entry.Answered.{Answered}
-use Rattle.audit.specs.declared.entry.Entry.{Entry}
-use Rattle.audit.specs.declared.entry.Entry.TheVariants.{Answered as WasAnswered, Spoiled, Overflowed, Attached, Detached, Begun, Finished}
-use Rattle.audit.specs.Entries.{entries_by}
-use Rattle.audit.specs.Seats.{Seated, seated_under, without_seated}
+use Rattle.audited_volume.specs.declared.entry.Answered.{Answered}
+use Rattle.audited_volume.specs.declared.entry.Entry.{Entry}
+use Rattle.audited_volume.specs.declared.entry.Entry.TheVariants.{Answered as WasAnswered, Spoiled, Overflowed, Attached, Detached, Begun, Finished}
+use Rattle.audited_volume.specs.Entries.{entries_by}
+use Rattle.audited_volume.specs.Seats.{Seated, seated_under, without_seated}
 use Rattle.locked_volume.specs.Keeping.{Begins, held_by, knower, nobody, after_deal, next_seat, keeper_of, looking_of, seat_of, seated_with, is_silent, Answers, HasAsked, MayNote, told_of, Owns, Waits, Fits, IsKept, Knows, IsNotedAs, IsChecked}
 use Rattle.locked_volume.specs.declared.rule.View.{View}
 use Rattle.locked_volume.specs.declared.told.Told.{Told}

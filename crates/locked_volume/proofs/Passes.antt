@@ -2,9 +2,9 @@
 use Rattle.std.proofs.Common.{◌≡◌, ◌<◌, ◌≤◌, ◌+◌, ℕ, List, [], ◌∷◌, ◌++◌, length, below_more, map, set, get_or, inl, inr, refl, sym, ap, ◌∙◌, subst, arith, length-set}
 use Rattle.std.proofs.lemmas.List.{get_or-map, get_or_default}
 use Rattle.std.proofs.Math.ListN.{get_or-append}
-use Rattle.between_threads.specs.Growth.{EndsIn}
-use Rattle.between_threads.specs.BoardPasses.{BoardId, Seen}
-use Rattle.between_threads.specs.declared.usage.PlaceUsage.{PlaceUsage}
+use Rattle.thread_channels.specs.Growth.{EndsIn}
+use Rattle.thread_channels.specs.BoardPasses.{BoardId, Seen}
+use Rattle.thread_channels.specs.declared.usage.PlaceUsage.{PlaceUsage}
 use Rattle.volume.specs.Volumed.{Volumed}
 use Rattle.locked_volume.specs.Boards.{AreKeptUp, ArePublishers, AreShown, IsKeptUp, IsPublished, Publishes}
 use Rattle.locked_volume.specs.Usages.{usage_at}

@@ -17,15 +17,15 @@ use Rattle.plain_machine.specs.declared.request.Reply.{Reply}
 use Rattle.plain_machine.specs.declared.request.Request.{Request}
 use Rattle.sector.specs.declared.refusal.Refusal.{Refusal}
 use Rattle.volume.specs.Flying.{Fits}
-use Rattle.audit.specs.declared.entry.Answered.{Answered as AnsweredEntry}
-use Rattle.audit.specs.declared.entry.Entry.{Entry}
-use Rattle.audit.specs.declared.entry.Entry.TheVariants.{Answered}
-use Rattle.audit.specs.declared.entry.Receipt.{Receipt}
-use Rattle.audit.specs.Books.{AuditShape}
-use Rattle.audit.specs.Entries.{answered_of, entries_by}
-use Rattle.audit.specs.PlacesTaken.{HasReceipt, IsNotMerged, IsNoted, IsSilent, KeepsJournal}
-use Rattle.audit.specs.Seats.{IsUnanswered, Seated, may_do, seated_under, without_seated}
-use Rattle.audit.proofs.Receipts.{may_other}
+use Rattle.audited_volume.specs.declared.entry.Answered.{Answered as AnsweredEntry}
+use Rattle.audited_volume.specs.declared.entry.Entry.{Entry}
+use Rattle.audited_volume.specs.declared.entry.Entry.TheVariants.{Answered}
+use Rattle.audited_volume.specs.declared.entry.Receipt.{Receipt}
+use Rattle.audited_volume.specs.Books.{AuditShape}
+use Rattle.audited_volume.specs.Entries.{answered_of, entries_by}
+use Rattle.audited_volume.specs.PlacesTaken.{HasReceipt, IsNotMerged, IsNoted, IsSilent, KeepsJournal}
+use Rattle.audited_volume.specs.Seats.{IsUnanswered, Seated, may_do, seated_under, without_seated}
+use Rattle.audited_volume.proofs.Receipts.{may_other}
 use Rattle.locked_volume.specs.Keeping.{Begins, answered_by, asked_by, keeper_of, looking_of, seated_with}
 use Rattle.locked_volume.specs.declared.rule.View.{View}
 use Rattle.locked_volume.specs.declared.told.Told.{Told}

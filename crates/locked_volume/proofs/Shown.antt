@@ -6,7 +6,7 @@ use Rattle.std.proofs.lemmas.Bool.{ltb-true, lt-ltb}
 use Rattle.std.proofs.lemmas.List.{get_or-map, length-map}
 use Rattle.std.proofs.lemmas.List.Edits.{get_or-insert_below, get_or-insert_above}
 use Rattle.std.proofs.lemmas.List.Sums.{count_by-le-length, count_by_more_no, count_by_more_yes}
-use Rattle.between_threads.specs.Words.{no_usage}
+use Rattle.thread_channels.specs.Words.{no_usage}
 use Rattle.chunk_alloc.specs.declared.usage.Usage.{Usage as Sectors}
 use Rattle.merge.specs.Merging.{Merging}
 use Rattle.snapshot.specs.Kept.{Kept}

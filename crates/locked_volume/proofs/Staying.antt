@@ -15,8 +15,8 @@ use Rattle.volume.specs.Beginning.{IsMergeBegun, IsNotBegun, SameButKept, begin_
 use Rattle.volume.specs.Causes.{counts_with, counts_of}
 use Rattle.volume.specs.Stepping.{KeepsAll, merged_of}
 use Rattle.volume.specs.Volumed.{Volumed, is_loud_in_all, is_loud_with}
-use Rattle.audit.specs.Books.{AuditShape}
-use Rattle.audit.specs.PlacesTaken.{KeepsBase, KeepsJournal}
+use Rattle.audited_volume.specs.Books.{AuditShape}
+use Rattle.audited_volume.specs.PlacesTaken.{KeepsBase, KeepsJournal}
 use Rattle.locked_volume.specs.Fixed.{Fixed, StaysFrom, fixed_of, least_of, piece_at, piece_in}
 
 -- device 0 is the origin disk

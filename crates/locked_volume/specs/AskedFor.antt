@@ -2,8 +2,8 @@
 -- Which entries may come of what a rig's seats ask of a volume. This project's own.
 use Rattle.std.specs.Prelude.{◌≡◌, ◌<◌, ℕ, Bool, true, List, ◌++◌}
 use Rattle.std.specs.List.{All}
-use Rattle.audit.specs.declared.entry.Entry.{Entry}
-use Rattle.audit.specs.declared.entry.Entry.TheVariants.{Answered, Spoiled, Overflowed, Attached, Detached, Begun, Finished}
+use Rattle.audited_volume.specs.declared.entry.Entry.{Entry}
+use Rattle.audited_volume.specs.declared.entry.Entry.TheVariants.{Answered, Spoiled, Overflowed, Attached, Detached, Begun, Finished}
 
 -- The reply to a request of a seat, which have the numbers 1 to 8; or the begin of a merge that may be asked for; or what the volume
 -- notes itself: that a snapshot is lost, or that its store overflowed.

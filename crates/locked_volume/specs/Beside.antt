@@ -1,7 +1,7 @@
 -- What stands beside a volume's lock. This project's own.
 use Rattle.std.specs.Prelude.{◌≡◌, ℕ, List}
 use Rattle.atomic_table.specs.Seated.{TableId}
-use Rattle.between_threads.specs.BoardPasses.{BoardId}
+use Rattle.thread_channels.specs.BoardPasses.{BoardId}
 use Rattle.locked_volume.specs.Ties.{table_of}
 use Rattle.locked_volume.specs.declared.beside.Beside.{Beside}
 

@@ -1,9 +1,9 @@
 -- The boards of one volume's places, and the passes to them. This project's own.
 use Rattle.std.specs.Prelude.{◌≡◌, ◌⊎◌, ◌<◌, ◌++◌, ◌∷◌, [], ℕ, true, List, length, slice_index_or}
-use Rattle.between_threads.specs.Growth.{EndsIn, StartsWith}
-use Rattle.between_threads.specs.BoardPasses.{BoardId, Seen}
-use Rattle.between_threads.specs.Words.{no_usage}
-use Rattle.between_threads.specs.declared.usage.PlaceUsage.{PlaceUsage}
+use Rattle.thread_channels.specs.Growth.{EndsIn, StartsWith}
+use Rattle.thread_channels.specs.BoardPasses.{BoardId, Seen}
+use Rattle.thread_channels.specs.Words.{no_usage}
+use Rattle.thread_channels.specs.declared.usage.PlaceUsage.{PlaceUsage}
 use Rattle.volume.specs.Volumed.{Volumed}
 use Rattle.locked_volume.specs.Usages.{usage_at}
 

@@ -11,9 +11,9 @@ use Rattle.plain_machine.specs.declared.request.Dev.TheVariants.{Origin, Snap}
 use Rattle.plain_machine.specs.declared.request.Op.TheVariants.{Write}
 use Rattle.plain_machine.specs.declared.request.Overflowing.TheVariants.{Did}
 use Rattle.plain_machine.specs.declared.request.Request.{Request}
-use Rattle.audit.specs.declared.entry.Entry.{Entry}
-use Rattle.audit.specs.declared.entry.Entry.TheVariants.{Begun}
-use Rattle.audit.specs.Replay.{replay}
+use Rattle.audited_volume.specs.declared.entry.Entry.{Entry}
+use Rattle.audited_volume.specs.declared.entry.Entry.TheVariants.{Begun}
+use Rattle.audited_volume.specs.Replay.{replay}
 use Rattle.locked_volume.specs.Keeping.{Begins}
 use Rattle.volume.specs.Submitting.{is_piece_of}
 use Rattle.locked_volume.specs.Fixed.{Fixed, StaysFrom, piece_at}

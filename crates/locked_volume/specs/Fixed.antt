@@ -6,9 +6,9 @@ use Rattle.snapshot_list.specs.Numbers.{number_of_snap}
 use Rattle.plain_machine.specs.Plain.{Shown}
 use Rattle.volume.specs.Stepping.{merged_of}
 use Rattle.volume.specs.Volumed.{is_loud_in_all}
-use Rattle.audit.specs.declared.entry.Entry.{Entry}
-use Rattle.audit.specs.Books.{AuditShape}
-use Rattle.audit.specs.Entries.{entries_by}
+use Rattle.audited_volume.specs.declared.entry.Entry.{Entry}
+use Rattle.audited_volume.specs.Books.{AuditShape}
+use Rattle.audited_volume.specs.Entries.{entries_by}
 
 -- attached: how many snapshots were ever attached; sectors: of the origin; numbers, chunks: of the snapshots in order of
 -- attaching, but for the one that is being merged, and merged: of that one; sound: whether no device drops writes; loud:

@@ -1,7 +1,7 @@
 -- The names of no table and of no queue, and of nothing that stays. This project's own.
 use Rattle.std.specs.Prelude.{[], None, false}
 use Rattle.atomic_table.specs.Seated.{TableId}
-use Rattle.between_threads.specs.Passes.{Queue}
+use Rattle.thread_channels.specs.Passes.{Queue}
 use Rattle.locked_volume.specs.Fixed.{Fixed}
 
 abbrev pub no_table : TableId

@@ -5,9 +5,9 @@ use Rattle.atomic_table.specs.declared.shared.Seat.{Seat}
 use Rattle.plain_machine.specs.declared.request.Reply.{Reply}
 use Rattle.plain_machine.specs.declared.request.Request.{Request}
 use Rattle.volume.specs.Flying.{Fits}
-use Rattle.audit.specs.declared.entry.Receipt.{Receipt}
-use Rattle.audit.specs.Entries.{answered_of, entries_by}
-use Rattle.audit.specs.Seats.{seated_under, without_seated}
+use Rattle.audited_volume.specs.declared.entry.Receipt.{Receipt}
+use Rattle.audited_volume.specs.Entries.{answered_of, entries_by}
+use Rattle.audited_volume.specs.Seats.{seated_under, without_seated}
 use Rattle.locked_volume.specs.Keeping.{Begins}
 use Rattle.locked_volume.specs.declared.rule.View.{View}
 use Rattle.locked_volume.specs.declared.told.Told.{Told}

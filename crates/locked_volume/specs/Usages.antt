@@ -2,9 +2,9 @@
 -- The numbers are those of the kernel's status lines; that a place counts snapshots in order of attaching is this project's own.
 use Rattle.std.specs.Prelude.{◌&&◌, nat_lt, ℕ, ◌-◌, ◌^◌, Bool, List, Option, Some, None, map, min, count_by, slice_index_or, if◌then◌else◌}
 use Rattle.std.specs.List.{insert}
-use Rattle.between_threads.specs.Words.{no_usage}
-use Rattle.between_threads.specs.declared.usage.PlaceState.TheVariants.{Good, Invalid, MergeFailed, Overflow}
-use Rattle.between_threads.specs.declared.usage.PlaceUsage.{PlaceUsage}
+use Rattle.thread_channels.specs.Words.{no_usage}
+use Rattle.thread_channels.specs.declared.usage.PlaceState.TheVariants.{Good, Invalid, MergeFailed, Overflow}
+use Rattle.thread_channels.specs.declared.usage.PlaceUsage.{PlaceUsage}
 use Rattle.chunk_alloc.specs.declared.usage.Usage.{Usage as Sectors}
 use Rattle.merge.specs.Merging.{Merging}
 use Rattle.plain_machine.specs.Plain.{did_overflow}

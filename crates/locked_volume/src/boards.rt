@@ -1,8 +1,8 @@
 // The boards of a volume's places, and the passes to them.
 
-use between_threads::{Board, BoardPass};
 use crossbeam_utils::CachePadded;
 use std::marker::Model;
+use thread_channels::{Board, BoardPass};
 
 /// A volume has so many places for snapshots, which count from 0 in order of attaching.
 pub const PLACES: usize = 8;
@@ -15,7 +15,7 @@ pub struct Boards {
 
 impl Model for Boards {
     ghost use Rattle.std.specs.Prelude.{List};
-    ghost use Rattle.between_threads.specs.BoardPasses.{BoardId};
+    ghost use Rattle.thread_channels.specs.BoardPasses.{BoardId};
 
     ghost Value = { List BoardId };
 
@@ -35,7 +35,7 @@ pub struct Publishers {
 
 impl Model for Publishers {
     ghost use Rattle.std.specs.Prelude.{List};
-    ghost use Rattle.between_threads.specs.BoardPasses.{Seen};
+    ghost use Rattle.thread_channels.specs.BoardPasses.{Seen};
 
     ghost Value = { List Seen };
 
@@ -50,7 +50,7 @@ pub struct Readers {
 
 impl Model for Readers {
     ghost use Rattle.std.specs.Prelude.{List};
-    ghost use Rattle.between_threads.specs.BoardPasses.{Seen};
+    ghost use Rattle.thread_channels.specs.BoardPasses.{Seen};
 
     ghost Value = { List Seen };
 

@@ -1,7 +1,7 @@
 // What the keeper and the seats do.
 ghost use Rattle.std.specs.Prelude.{◌≡◌, ℕ, ◌+◌, List, [], ◌∷◌, ◌++◌, true, false, IfOk};
-ghost use Rattle.audit.specs.Entries.{entries_by};
-ghost use Rattle.audit.specs.Seats.{seated_under};
+ghost use Rattle.audited_volume.specs.Entries.{entries_by};
+ghost use Rattle.audited_volume.specs.Seats.{seated_under};
 ghost use Rattle.locked_volume.specs.Keeping.{Begins, HasAsked, HasSeen, Answers, MayNote, answered_by, asked_by, told_of, held_by, is_silent, keeper_of, knower, looking_of, next_seat, after_deal, noted_by, seat_of, seated_with, Knows};
 ghost use Rattle.locked_volume.specs.Ties.{IsPassOf, table_of};
 
@@ -9,7 +9,7 @@ use crate::rule::{Checks, Deals, Looks, Notes, Pass, Sits};
 use crate::table::History;
 use crate::told::Told;
 use atomic_table::Table;
-use audit::Entry;
+use audited_volume::Entry;
 use plain_machine::{ReqId, Request};
 use std::alloc::{AllocError, Global};
 use std::snapshot::Snapshot;

@@ -2,7 +2,7 @@
 //! others of it; beside it a history, which ties a seat's receipts to the journal, and a board for each of eight places, which says
 //! how much of a snapshot's store is in use and is read without the lock.
 //!
-//! It stands on `audit`, on the board of `between_threads`, and on `atomic_table`, for one word that never changes. Whenever the lock is taken,
+//! It stands on `audited_volume`, on the board of `thread_channels`, and on `atomic_table`, for one word that never changes. Whenever the lock is taken,
 //! the history's keeper knows the journal's entries and the requests in flight, and what was published last at each place is the
 //! usage of the snapshot there: each call that changes one publishes it once, before the lock is released. Each entry since the rig was
 //! made is then the reply to a request of a seat from 1 to 8, the begin of a merge that a seat may ask for, or what the volume notes

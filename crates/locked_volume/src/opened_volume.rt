@@ -10,7 +10,7 @@ use crate::boards::{Boards, Publishers, Readers};
 use crate::post::Post;
 use crate::room::Room;
 use crate::{History, Pass};
-use audit::Audit;
+use audited_volume::Audit;
 use layers::Layered;
 use std::alloc::{AllocError, Global};
 use std::marker::{Model, PhantomData};

@@ -1,7 +1,7 @@
 // What lies under a volume's lock.
 use crate::boards::Publishers;
 use crate::room::Room;
-use audit::Audit;
+use audited_volume::Audit;
 use layers::Layered;
 use std::marker::{Model, PhantomData};
 

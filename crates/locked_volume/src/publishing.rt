@@ -1,16 +1,16 @@
 // Usages are published.
 ghost use Rattle.std.specs.Prelude.{◌≡◌, ◌<◌, ℕ, IfOk, slice_index_or, true};
-ghost use Rattle.between_threads.specs.BoardPasses.{Seen};
-ghost use Rattle.between_threads.specs.Words.{IsNarrow};
+ghost use Rattle.thread_channels.specs.BoardPasses.{Seen};
+ghost use Rattle.thread_channels.specs.Words.{IsNarrow};
 ghost use Rattle.locked_volume.specs.Boards.{AreKeptUp, ArePublishers, AreReaders, AreShown, AreUnused, IsKeptUp, IsPublished};
 ghost use Rattle.locked_volume.specs.Usages.{usage_at as usage_of_place};
 
 use crate::boards::{Boards, PLACES, Publishers, Readers};
 use crate::usages::usage_at;
-use between_threads::{Board, BoardPass, PlaceUsage};
 use crossbeam_utils::CachePadded;
 use device::Block;
 use std::alloc::{AllocError, Global};
+use thread_channels::{Board, BoardPass, PlaceUsage};
 use volume::Volume;
 
 /// Publishes a usage, where another was published last.

@@ -3,7 +3,7 @@ ghost use Rattle.std.specs.Prelude.{◌<◌};
 ghost use Rattle.locked_volume.specs.Boards.{AreReaders, HasRead};
 
 use crate::boards::{Boards, Readers};
-use between_threads::PlaceUsage;
+use thread_channels::PlaceUsage;
 
 impl Boards {
     /// The usage that was published last at a place. It takes no lock and no memory, and never waits. What its pass had seen of

@@ -6,10 +6,10 @@ use std::marker::Brand;
 /// a program picks them.
 pub trait Room {
     ghost use Rattle.std.specs.Prelude.{ℕ, Bool, List};
-    ghost use Rattle.audit.specs.declared.entry.Entry.{Entry};
+    ghost use Rattle.audited_volume.specs.declared.entry.Entry.{Entry};
     ghost use Rattle.atomic_table.specs.Seated.{TableId};
-    ghost use Rattle.between_threads.specs.BoardPasses.{BoardId};
-    ghost use Rattle.between_threads.specs.Passes.{Queue};
+    ghost use Rattle.thread_channels.specs.BoardPasses.{BoardId};
+    ghost use Rattle.thread_channels.specs.Passes.{Queue};
     ghost use Rattle.locked_volume.specs.Fixed.{Fixed};
 
     ghost volumes: { ℕ };

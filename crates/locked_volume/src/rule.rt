@@ -2,7 +2,7 @@
 
 use crate::told::Told;
 use atomic_table::{Join, Play, Seat, Split, TableRule};
-use audit::{Answered, Entry};
+use audited_volume::{Answered, Entry};
 use plain_machine::Request;
 use std::collections::LinkedList;
 use std::marker::Model;
@@ -15,7 +15,7 @@ pub struct Asked {
 }
 
 impl Model for Asked {
-    ghost use Rattle.audit.specs.Seats.{Seated};
+    ghost use Rattle.audited_volume.specs.Seats.{Seated};
 
     ghost Value = { Seated };
 

@@ -4,7 +4,7 @@ ghost use Rattle.std.specs.Prelude.{◌≡◌};
 use crate::rule::{Kept, View};
 use crate::told::Told;
 use atomic_table::Table;
-use audit::Entry;
+use audited_volume::Entry;
 use std::alloc::Global;
 
 /// A word that never changes: each step on it orders what the passes know.

@@ -1,6 +1,6 @@
 // What a call under a volume's lock did is told to those who stand beside it.
 ghost use Rattle.std.specs.Prelude.{◌≡◌, ◌<◌, ℕ, length, slice_index_or, true};
-ghost use Rattle.audit.specs.declared.entry.Entry.{Entry};
+ghost use Rattle.audited_volume.specs.declared.entry.Entry.{Entry};
 ghost use Rattle.locked_volume.specs.Keeping.{is_silent};
 ghost use Rattle.locked_volume.specs.Ties.{table_of};
 ghost use Rattle.locked_volume.specs.Boards.{AreKeptUp, ArePublishers, AreShown};
@@ -9,7 +9,7 @@ ghost use Rattle.locked_volume.specs.Posts.{IsKeeper, with_more};
 use crate::Pass;
 use crate::beside::Beside;
 use crate::boards::Publishers;
-use audit::{Audit, Entry};
+use audited_volume::{Audit, Entry};
 use layers::Layered;
 
 impl Beside {

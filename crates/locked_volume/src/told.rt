@@ -1,6 +1,6 @@
 // What a step says to the rule. It is for the proof alone.
 
-use audit::Entry;
+use audited_volume::Entry;
 use plain_machine::Request;
 use std::snapshot::Snapshot;
 

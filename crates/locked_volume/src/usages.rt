@@ -1,16 +1,16 @@
 // What the boards are to say of a volume's places.
 ghost use Rattle.std.specs.Prelude.{◌≡◌, ◌<◌, ◌^◌, Some, count_by, map, slice_index_or, true};
-ghost use Rattle.between_threads.specs.Words.{IsNarrow, no_usage};
+ghost use Rattle.thread_channels.specs.Words.{IsNarrow, no_usage};
 ghost use Rattle.volume.specs.Asking.{merging_number};
 ghost use Rattle.merge.specs.Merging.{Merging};
 ghost use Rattle.plain_machine.specs.Plain.{did_overflow};
 ghost use Rattle.locked_volume.specs.Usages.{fitted, is_before, shown_merge, shown_of, used, usage_at as usage_of_place};
 
-use between_threads::{PlaceState, PlaceUsage};
 use chunk_alloc::Usage as Sectors;
 use device::Block;
 use plain_machine::{Overflowing, SnapId};
 use snapshot::Snapshot;
+use thread_channels::{PlaceState, PlaceUsage};
 use volume::Volume;
 
 /// The largest number that a board's word has room for.

@@ -4,8 +4,8 @@ use Rattle.std.specs.Prelude.{Option, Some, None}
 use Rattle.std.proofs.lemmas.List.{take-append-drop}
 use Rattle.sector.specs.Bytes.{sectors_at, with_part}
 use Rattle.sector.specs.declared.pair.Pair.{Pair}
-use Rattle.store_bytes.specs.Places.{area_place, ChangesOnly}
-use Rattle.store_bytes.specs.Pairs.{pairs_of, IsInside}
+use Rattle.cow_format.specs.Places.{area_place, ChangesOnly}
+use Rattle.cow_format.specs.Pairs.{pairs_of, IsInside}
 use Rattle.in_flight.specs.Copies.{count_of}
 use Rattle.store.specs.Grouping.{shifted, run_at, IsGroup}
 use Rattle.store.proofs.Groups.{run-append, length-run}

@@ -2,7 +2,7 @@
 use Rattle.std.proofs.Common.{◌≡◌, ◌⊎◌, inl, inr, ℕ, zero, suc, ◌+◌, ◌-◌, ◌*◌, ◌^◌, ◌<◌, ◌≤◌, true, false, List, ◌∷◌, ◌++◌, arith, refl, ap, ◌∙◌, sym, subst, append-nil}
 use Rattle.std.specs.Prelude.{Some}
 use Rattle.sector.specs.declared.pair.Pair.{Pair}
-use Rattle.store_bytes.specs.Pairs.{IsInside}
+use Rattle.cow_format.specs.Pairs.{IsInside}
 use Rattle.store.specs.Grouping.{shifted, run_at}
 use Rattle.store.proofs.Groups.{get_or-run, run-append, length-run}
 use Rattle.store.specs.declared.state.State.{State}

@@ -3,15 +3,15 @@ use Rattle.std.proofs.Common.{◌≡◌, inl, inr, ◌&&◌, not, nat_le, ℕ, �
 use Rattle.std.specs.Prelude.{Option, Some, None}
 use Rattle.std.specs.List.{All}
 use Rattle.std.proofs.lemmas.List.Elements.{All-nil, All-append}
-use Rattle.store_bytes.specs.Picture.{place_of}
-use Rattle.store_bytes.proofs.Pictures.{place_found}
+use Rattle.cow_format.specs.Picture.{place_of}
+use Rattle.cow_format.proofs.Pictures.{place_found}
 use Rattle.volume_laws.proofs.Lists.{All-front}
 use Rattle.std.proofs.lemmas.Bool.{cases_lt, false≢true, true≢false}
 use Rattle.std.proofs.lemmas.List.{append-nil, drop_all, length-take-le, take_at}
 use Rattle.sector.specs.Bytes.{sectors_at, with_part, with_sectors}
 use Rattle.sector.proofs.Sectors.{sectors_at-with_same}
 use Rattle.sector.specs.declared.pair.Pair.{Pair}
-use Rattle.store_bytes.specs.Pairs.{IsInside}
+use Rattle.cow_format.specs.Pairs.{IsInside}
 use Rattle.in_flight.specs.Copies.{count_of}
 use Rattle.store.specs.Grouping.{shifted, run_at, EndsWithRun, IsGroup}
 use Rattle.store.proofs.Groups.{get_or-run, length-run, run_get}

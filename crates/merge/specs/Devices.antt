@@ -6,7 +6,7 @@ use Rattle.device.specs.declared.block.Block as Block
 use Rattle.device.specs.declared.operation.Operation.TheVariants.{Flushes}
 use Rattle.layers.specs.Ticks.{layers_ticked}
 use Rattle.chunk_alloc.specs.declared.usage.Usage.{Usage}
-use Rattle.stop_laws.specs.Firm.{AddsNow, IsFirm}
+use Rattle.crash_laws.specs.Firm.{AddsNow, IsFirm}
 use Rattle.store.specs.Layering.{IsRelayered}
 use Rattle.merge.specs.InStep.{IsInStep}
 use Rattle.merge.specs.Merging.{Merging}

@@ -3,7 +3,7 @@ use Rattle.std.specs.Prelude.{◌≡◌, ℕ, ◌+◌, ◌*◌, ◌^◌, ◌<◌
 use Rattle.std.specs.List.{All}
 use Rattle.sector.specs.declared.pair.Pair.{Pair}
 use Rattle.chunk.specs.Sizes.{is_chunk}
-use Rattle.store_bytes.specs.Pairs.{IsInside}
+use Rattle.cow_format.specs.Pairs.{IsInside}
 use Rattle.store.specs.Grouping.{EndsWithRun}
 use Rattle.store.specs.declared.state.Left.TheVariants.{Nothing}
 use Rattle.store.specs.declared.state.State.{State}

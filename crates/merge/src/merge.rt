@@ -1,7 +1,7 @@
 // A merge, its beginning and its end, and what callers ask of its store.
 ghost use Rattle.std.specs.Prelude.{◌≡◌, ℕ, ◌*◌, ◌<◌, ◌≤◌, length, None, true, false};
 ghost use Rattle.chunk.specs.Sizes.{is_chunk};
-ghost use Rattle.store_bytes.specs.Picture.{place_of as place_in};
+ghost use Rattle.cow_format.specs.Picture.{place_of as place_in};
 ghost use Rattle.store.specs.declared.state.Left.TheVariants.{Nothing};
 ghost use Rattle.store.specs.Held.{committed, pending as pending_of};
 ghost use Rattle.merge.specs.Devices.{HasAllocated, StaysInStep};

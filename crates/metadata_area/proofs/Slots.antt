@@ -6,7 +6,7 @@ use Rattle.sector.specs.Bytes.{with_part}
 use Rattle.sector.specs.Number.{number_at, number_bytes}
 use Rattle.sector.specs.declared.pair.Pair.{Pair}
 use Rattle.sector.proofs.Numbers.{same_number, length-number_bytes}
-use Rattle.store_bytes.specs.Slots.{pair_in, with_pair}
+use Rattle.cow_format.specs.Slots.{pair_in, with_pair}
 use Rattle.metadata_area.specs.Cleared.{zero_from, zero_slots, no_pair}
 
 -- the same sixteen bytes are the same pair

@@ -1,6 +1,6 @@
 // An area, and the pairs in its slots.
 ghost use Rattle.std.specs.Prelude.{◌≡◌, ◌≢◌, ℕ, ◌+◌, ◌*◌, ◌<◌, ◌≤◌, length, replicate, IfOk, IfErr};
-ghost use Rattle.store_bytes.specs.Slots.{pair_in, with_pair};
+ghost use Rattle.cow_format.specs.Slots.{pair_in, with_pair};
 ghost use Rattle.sector.specs.declared.refusal.Refusal.TheVariants.{NoMemory};
 
 use sector::{Pair, Refusal, SECTOR_BYTES, put_u64, u64_at};

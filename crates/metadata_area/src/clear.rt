@@ -1,7 +1,7 @@
 // Slots are emptied.
 ghost use Rattle.std.specs.Prelude.{◌≡◌, ◌⊎◌, ℕ, ◌+◌, ◌*◌, ◌<◌, ◌≤◌, length, replicate};
 ghost use Rattle.sector.specs.Bytes.{with_part};
-ghost use Rattle.store_bytes.specs.Slots.{pair_in};
+ghost use Rattle.cow_format.specs.Slots.{pair_in};
 ghost use Rattle.metadata_area.specs.Cleared.{zero_from, zero_slots, no_pair};
 
 use crate::Area;

@@ -1,6 +1,6 @@
 // An area is searched.
 ghost use Rattle.std.specs.Prelude.{◌≡◌, ◌≢◌, ℕ, ◌+◌, ◌*◌, ◌<◌, ◌≤◌, length, slice_index, MatchBool};
-ghost use Rattle.store_bytes.specs.Slots.{pair_in};
+ghost use Rattle.cow_format.specs.Slots.{pair_in};
 ghost use Rattle.metadata_area.specs.Cleared.{HasTail, HasNoTail};
 
 use crate::Area;

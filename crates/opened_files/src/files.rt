@@ -4,7 +4,7 @@ use crate::partial::partial_file;
 use crate::target::OUTPUT;
 use crate::trouble::{Trouble, Why, about};
 use file_calls::DiskFile;
-use image_files::FileSink;
+use images_on_files::FileSink;
 use std::io::ErrorKind;
 use std::{fs, io};
 

@@ -4,7 +4,7 @@ use crate::input::Input;
 use crate::inputs::Inputs;
 use crate::locking::{Lock, is_locked};
 use crate::trouble::{Trouble, Why, about};
-use image_words::Telling;
+use image_options::Telling;
 use std::fs;
 use std::fs::File;
 use std::os::fd::AsRawFd;

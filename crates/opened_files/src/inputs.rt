@@ -3,7 +3,7 @@
 use crate::files::is_free;
 use crate::input::Input;
 use crate::trouble::Trouble;
-use image_words::Telling;
+use image_options::Telling;
 
 /// An origin and its store, two files that are only read.
 #[derive(Drop)]

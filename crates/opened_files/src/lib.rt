@@ -2,7 +2,7 @@
 //! that; the two files of a merge in place; a new file that is written whole or not at all, or standard output; how far a command
 //! is; and what went wrong with which file, in words.
 //!
-//! It stands on `image_files` and `file_calls`, which say what a file is asked, on `file_users` for who else uses one, on `cow_image`
+//! It stands on `images_on_files` and `file_calls`, which say what a file is asked, on `file_users` for who else uses one, on `cow_image`
 //! and `cow_nbd`, whose failures and watches are told here. It promises that a file that is watched is asked just what the watcher is
 //! asked, each call once. What a file holds, and who opens it meanwhile, is no clause here.
 #![tactic(auto)]

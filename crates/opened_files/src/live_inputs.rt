@@ -5,7 +5,7 @@ use crate::input::Input;
 use crate::inputs::Inputs;
 use crate::trouble::Trouble;
 use image::Image;
-use live_snapshot::MovingFiles;
+use read_beside_writer::MovingFiles;
 use std::io;
 
 /// An origin and its store, which are only read while another program writes them. No lock is asked for.

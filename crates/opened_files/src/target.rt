@@ -3,7 +3,7 @@ ghost use Rattle.std.specs.Prelude.{None};
 
 use file_calls::DiskFile;
 use image::Sink;
-use image_files::FileSink;
+use images_on_files::FileSink;
 use std::io;
 use std::io::Write;
 

@@ -1,6 +1,6 @@
 // How far a command is, on standard error.
 
-use image_words::Telling;
+use image_options::Telling;
 use std::io::IsTerminal;
 use std::time::Instant;
 

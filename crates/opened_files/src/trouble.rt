@@ -2,7 +2,7 @@
 ghost use Rattle.std.specs.Prelude.{◌≡◌};
 
 use cow_image::{Failure, Stopped};
-use image_files::Asked;
+use images_on_files::Asked;
 use std::alloc::AllocError;
 use std::{fmt, io};
 

@@ -6,7 +6,7 @@ use crate::target::{OUTPUT, Target};
 use crate::teller::Teller;
 use crate::trouble::Trouble;
 use crate::watched::Watched;
-use image_words::Telling;
+use image_options::Telling;
 use std::fs;
 use std::io::Write;
 

@@ -14,7 +14,7 @@ use Rattle.volume.specs.Layering.{Measures}
 use Rattle.volume.specs.Leaving.{usage_of}
 use Rattle.volume.specs.Submitting.{is_merging}
 use Rattle.volume.specs.Volumed.{Volumed}
-use Rattle.served_volume.specs.Loaded.{IsLoaded}
+use Rattle.volume_opening.specs.Loaded.{IsLoaded}
 use Rattle.serve_commands.specs.Merging.{merging_name}
 
 same_number : (a b : ℕ) → (let x : Option ℕ = Some a in x) ≡ Some b → a ≡ b

@@ -4,8 +4,8 @@ use Rattle.sector.specs.declared.refusal.Refusal.TheVariants.{StoreTooSmall}
 use Rattle.serve_files.specs.declared.trouble.Why.{Why}
 use Rattle.serve_files.specs.declared.trouble.Why.TheVariants as why
 use Rattle.serve_files.specs.declared.trouble.StoreFault.TheVariants as fault
-use Rattle.served_volume.specs.declared.not_opened.NotOpened.{NotOpened}
-use Rattle.served_volume.specs.declared.not_opened.NotOpened.TheVariants as opening
+use Rattle.volume_opening.specs.declared.not_opened.NotOpened.{NotOpened}
+use Rattle.volume_opening.specs.declared.not_opened.NotOpened.TheVariants as opening
 use Rattle.volume_nbd.specs.declared.faults.Fault.{Fault}
 use Rattle.volume_nbd.specs.declared.faults.Fault.TheVariants as ending
 

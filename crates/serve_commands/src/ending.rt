@@ -4,14 +4,14 @@ ghost use Rattle.std.specs.List.{All, list_all};
 ghost use Rattle.file_calls.specs.Kept.{are_answered};
 ghost use Rattle.file_calls.specs.Note.{call_of};
 ghost use Rattle.merge.specs.Merging.{Merging};
-ghost use Rattle.nbd_session.specs.declared.ended.Finish.TheVariants.{Client};
+ghost use Rattle.nbd_write_session.specs.declared.ended.Finish.TheVariants.{Client};
 ghost use Rattle.serve_files.specs.Ending.{is_synced};
 ghost use Rattle.serve_files.specs.Names.{text_in};
 ghost use Rattle.serve_commands.specs.Troubles.{stop_by};
 
 use crate::merging::merging_store;
 use file_calls::DiskFile;
-use nbd_session::{Ended, Finish};
+use nbd_write_session::{Ended, Finish};
 use serve_files::{
     AllSynced, Device, HeldFile, Trouble, Why, all_synced, device_name, is_answered,
 };

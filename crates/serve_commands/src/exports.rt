@@ -1,7 +1,7 @@
 // The exports of a volume.
 ghost use Rattle.std.specs.Prelude.{◌≡◌, ◌∷◌, ◌*◌, IfOk, [], codes, map};
 ghost use Rattle.plain_machine.specs.declared.request.Dev.TheVariants.{Origin, Snap};
-ghost use Rattle.serve_words.specs.Exports.{last_part};
+ghost use Rattle.serve_options.specs.Exports.{last_part};
 
 use device::Block;
 use serve_files::{Device, Exports, Trouble, device_name};

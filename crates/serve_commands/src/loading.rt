@@ -11,10 +11,10 @@ use cow_header::Found;
 use plain_machine::SnapId;
 use sector::Refusal;
 use serve_files::{Device, StoreFault, Trouble, Why, device_name, pushed};
-use served_volume::NotOpened;
+use served_session::OpenedVolume;
 use std::io::Write;
 use volume::Volume;
-use volume_session::OpenedVolume;
+use volume_opening::NotOpened;
 
 /// A store whose snapshot is there: its file, whether the snapshot was taken just now, and how many pairs it has.
 #[derive(Clone, Copy)]

@@ -1,14 +1,14 @@
 // A command line is answered.
 ghost use Rattle.std.specs.Prelude.{◌≡◌, ◌≤◌, drop, map, IsErr};
 ghost use Rattle.std.specs.String.{string_bytes};
-ghost use Rattle.serve_words.specs.Splits.{split_by};
-ghost use Rattle.serve_words.specs.Asks.{asked_by};
+ghost use Rattle.serve_options.specs.Splits.{split_by};
+ghost use Rattle.serve_options.specs.Asks.{asked_by};
 
 use crate::serving::{Serving, serve};
 use crate::taking::{Taking, take};
-use command_line::program_words;
+use option_parser::program_words;
 use serve_files::{Trouble, about, new, status_of};
-use serve_words::{Asked, HELP, VERSION, split, words_ask};
+use serve_options::{Asked, HELP, VERSION, split, words_ask};
 use std::io::{Read, Write};
 
 /// Does what the words of a command line ask for, from and to these streams, and gives the exit status: 0 where it is done, 1 where a

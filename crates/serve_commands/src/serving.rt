@@ -10,15 +10,15 @@ use crate::exports::exports_of;
 use crate::loading::{Opened, opened_volume, tell_opened};
 use crate::merging::tell_merge;
 use nbd_options::Export;
-use nbd_session::{Ended, Finish};
+use nbd_write_session::{Ended, Finish};
 use serve_files::{
     AllSynced, Device, Exports, Given, Listed, OriginList, SessionFiles, Trouble, Why, has_streams,
     list_beside, session_files,
 };
+use served_session::ReadyArray;
 use std::io::{Read, Write};
 use volume::Volume;
 use volume_nbd::VolumeArray;
-use volume_session::ReadyArray;
 
 /// The words of a session.
 #[derive(Clone, Copy)]

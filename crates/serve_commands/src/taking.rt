@@ -4,8 +4,8 @@ ghost use Rattle.serve_commands.specs.Troubles.{is_of_origin, why_by};
 
 use sector::Refusal;
 use serve_files::{Given, Pair, StoreFault, Trouble, Why, has_streams, list_beside, opened_pair};
-use served_volume::NotOpened;
 use std::io::Write;
+use volume_opening::NotOpened;
 
 /// The words of a snapshot that is to be taken.
 #[derive(Clone, Copy)]
@@ -36,7 +36,7 @@ pub fn take<'a, E: Write>(
         origin: device,
         store,
     } = pair;
-    match served_volume::take(rt.alloc(), device, store, chunk) {
+    match volume_opening::take(rt.alloc(), device, store, chunk) {
         Ok(_volume) => {
             list.add(rt, cow)?;
             let _ = writeln!(errors, "taken {cow}");

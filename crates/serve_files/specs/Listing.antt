@@ -4,7 +4,7 @@ use Rattle.std.specs.Prelude.{◌≡◌, ◌⊎◌, ℕ, ◌-◌, ◌==◌, ◌|
 use Rattle.std.specs.List.{flat_map}
 use Rattle.std.specs.Str.{bytes_eq}
 use Rattle.file_calls.specs.Calls.{Call, Len, Read, Write, Sync}
-use Rattle.serve_words.specs.Exports.{has_export, last_part}
+use Rattle.serve_options.specs.Exports.{has_export, last_part}
 
 -- the first line says what it is
 abbrev pub head : List ℕ

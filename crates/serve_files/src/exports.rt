@@ -2,7 +2,7 @@
 ghost use Rattle.std.specs.Prelude.{◌≡◌, ◌∷◌, ◌++◌, ◌≤◌, IfErr, IfOk, OnOk, [], codes, length, map};
 ghost use Rattle.std.specs.List.{All};
 ghost use Rattle.plain_machine.specs.declared.request.Dev.TheVariants.{Origin, Snap};
-ghost use Rattle.serve_words.specs.Exports.{last_part};
+ghost use Rattle.serve_options.specs.Exports.{last_part};
 ghost use Rattle.serve_files.specs.Names.{IsAbout};
 ghost use Rattle.serve_files.specs.Served.{IsServed};
 
@@ -10,7 +10,7 @@ use crate::trouble::{Trouble, Why, pushed};
 use nbd_messages::{BlockSizes, WRITE_FLAGS};
 use nbd_options::Export;
 use plain_machine::{Dev, SnapId};
-use serve_words::export_name;
+use serve_options::export_name;
 use std::alloc::Global;
 
 /// The lengths of requests: whole sectors, best whole pages, 32 MiB at most.

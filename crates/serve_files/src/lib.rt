@@ -3,7 +3,7 @@
 //! with which, in words, and the exit status.
 //!
 //! It stands on `file_calls` for the calls of one file, on `file_users` for who else uses one, on `file_device` for devices, on
-//! `nbd_options` for exports, and on `serve_words` for the sizes that there are. It promises which calls are made of the file of a new
+//! `nbd_options` for exports, and on `serve_options` for the sizes that there are. It promises which calls are made of the file of a new
 //! store, that one that is not empty is left as it was, and that zeros are left; that a device and a trouble have the name of their file,
 //! in the order of the names; that devices are made of files that were synced, no two of them one; which export has which name; that at
 //! the end each file is synced, or a trouble told; which text a list holds, that it is synced before it gets its name, and which of its

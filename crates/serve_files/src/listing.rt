@@ -3,7 +3,7 @@ ghost use Rattle.std.specs.Prelude.{◌≡◌, ◌++◌, [], IfOk, IfSome, OnOk,
 ghost use Rattle.serve_files.specs.Listing.{added, head, is_given, is_merged, left_out, line_of, list_of, merge_line};
 ghost use Rattle.serve_files.specs.Names.{text_in, text_of};
 
-use serve_words::{export_name, has_name};
+use serve_options::{export_name, has_name};
 use std::alloc::{AllocError, Global};
 
 /// Its first line.

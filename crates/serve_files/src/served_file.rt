@@ -4,7 +4,7 @@ ghost use Rattle.serve_files.specs.Names.{IsAbout};
 
 use crate::opening::OpenFile;
 use crate::trouble::{Trouble, Why, about};
-use serve_words::MOST_BYTES;
+use serve_options::MOST_BYTES;
 use std::fs::File;
 
 /// A file that is open and locked, and how many sectors it has: 1 to 2^31. Only `served` makes one.

@@ -7,8 +7,8 @@ use Rattle.std.proofs.lemmas.List.{get_or-map, length-map, drop-map, map_push}
 use Rattle.std.proofs.lemmas.List.Elements.{All-set, All-drop, All-push, All-map}
 use Rattle.std.proofs.Math.Seq.{map-set_same}
 use Rattle.sector.specs.declared.pair.Pair.{Pair}
-use Rattle.store_bytes.specs.Pairs.{IsInside}
-use Rattle.store_bytes.specs.Picture.{place_of}
+use Rattle.cow_format.specs.Pairs.{IsInside}
+use Rattle.cow_format.specs.Picture.{place_of}
 use Rattle.in_flight.specs.Copies.{count_of, pair_of}
 use Rattle.in_flight.specs.Flushed.{flushed_copy}
 use Rattle.in_flight.proofs.Batches.{batch_few}

@@ -5,9 +5,9 @@ use Rattle.std.proofs.lemmas.List.{take-map, length-map}
 use Rattle.sector.specs.Bytes.{sectors_at, with_sectors}
 use Rattle.sector.specs.declared.pair.Pair.{Pair}
 use Rattle.device.specs.Layers.{Layer, is_loud}
-use Rattle.store_bytes.specs.Places.{area_place, ChangesOnly}
-use Rattle.store_bytes.specs.Pairs.{pairs_of}
-use Rattle.store_bytes.specs.NextPlace.{stepped}
+use Rattle.cow_format.specs.Places.{area_place, ChangesOnly}
+use Rattle.cow_format.specs.Pairs.{pairs_of}
+use Rattle.cow_format.specs.NextPlace.{stepped}
 use Rattle.in_flight.specs.Copies.{count_of}
 use Rattle.in_flight.specs.declared.copies.ChunkCopy.{ChunkCopy}
 use Rattle.in_flight.specs.declared.copies.Mark.{Mark}

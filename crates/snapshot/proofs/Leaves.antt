@@ -6,7 +6,7 @@ use Rattle.sector.specs.declared.pair.Pair.{Pair}
 use Rattle.sector.specs.declared.refusal.Refusal.{Refusal}
 use Rattle.cow_header.specs.HeaderText.{found_in}
 use Rattle.cow_header.specs.declared.found.Found.{Found}
-use Rattle.stop_laws.specs.Firm.{AddsNow}
+use Rattle.crash_laws.specs.Firm.{AddsNow}
 use Rattle.store.specs.Loading.{after_write, is_left}
 use Rattle.store.specs.Stopping.{LeavesPreparing, LoadsFirst, MayPrepare}
 use Rattle.store.specs.declared.state.Left.{Left}

@@ -1,17 +1,17 @@
--- The flushes and writes of a load, one after the other, as `big_steps` has them.
+-- The flushes and writes of a load, one after the other, as `whole_commands` has them.
 use Rattle.std.proofs.Common.{◌≡◌, ℕ, ◌∙◌, Bool, true, false, List, refl, sym, ap, subst}
 use Rattle.std.proofs.lemmas.Bool.{true≢false, false≢true, cond-true, cond-false}
 use Rattle.sector.specs.declared.refusal.Refusal.TheVariants.{Io}
 use Rattle.device.specs.declared.operation.Operation.TheVariants.{Flushes}
 use Rattle.device.specs.Layers.{Layer}
-use Rattle.store_bytes.specs.Places.{ChangesOnly}
+use Rattle.cow_format.specs.Places.{ChangesOnly}
 use Rattle.store.specs.Loading.{after_write, chunk_left, is_left}
 use Rattle.store.specs.Operations.{IsOneOperation}
 use Rattle.store.specs.declared.state.Left.{Left}
 use Rattle.store.specs.declared.state.Left.TheVariants.{FirstArea, HeaderChunk, Tail, Nothing}
 use Rattle.store.specs.declared.state.State.{State}
-use Rattle.big_steps.specs.Devices.{Device}
-use Rattle.big_steps.specs.Attaching.{Tried, refuse, flush_on, flush_both, done}
+use Rattle.whole_commands.specs.Devices.{Device}
+use Rattle.whole_commands.specs.Attaching.{Tried, refuse, flush_on, flush_both, done}
 use Rattle.snapshot.specs.Attaching.{last_by, next_by, prepared_by}
 use Rattle.snapshot.specs.Opening.{ChangesFront}
 use Rattle.snapshot.proofs.Tries.{over}

@@ -6,17 +6,17 @@ use Rattle.std.proofs.lemmas.Bool.{true≢false}
 use Rattle.std.proofs.lemmas.Nat.{mod_below}
 use Rattle.sector.proofs.Sectors.{byte_read}
 use Rattle.sector.specs.declared.pair.Pair.{Pair}
-use Rattle.store_bytes.specs.Places.{area_place, is_area_place}
-use Rattle.store_bytes.specs.Pairs.{pairs_of, IsInside}
-use Rattle.store_bytes.specs.Picture.{place_of, picture, picture_at, byte_of}
-use Rattle.store_bytes.proofs.AreaPlaces.{place_is}
-use Rattle.store_bytes.proofs.Pictures.{same_picture}
+use Rattle.cow_format.specs.Places.{area_place, is_area_place}
+use Rattle.cow_format.specs.Pairs.{pairs_of, IsInside}
+use Rattle.cow_format.specs.Picture.{place_of, picture, picture_at, byte_of}
+use Rattle.cow_format.proofs.AreaPlaces.{place_is}
+use Rattle.cow_format.proofs.Pictures.{same_picture}
 use Rattle.store.specs.declared.state.Left.TheVariants.{Nothing}
 use Rattle.store.specs.declared.state.State.{State}
 use Rattle.store.specs.Stored.{new_of}
 use Rattle.device.specs.Layers.{Layer, is_loud}
 use Rattle.plain_machine.specs.Plain.{overflow_of}
-use Rattle.store_bytes.specs.NextPlace.{IsNextPlace}
+use Rattle.cow_format.specs.NextPlace.{IsNextPlace}
 use Rattle.snapshot.specs.Kept.{Kept}
 use Rattle.snapshot.specs.Opened.{IsOpened}
 use Rattle.store.specs.declared.opening.Loaded.{Loaded}

@@ -3,17 +3,17 @@ use Rattle.std.proofs.Common.{◌≡◌, inl, inr, ℕ, ◌+◌, ◌*◌, ◌/�
 use Rattle.std.proofs.lemmas.Bool.{cases_Bool}
 use Rattle.std.proofs.lemmas.Nat.{div-mul-add, mod-mul-add}
 use Rattle.sector.specs.declared.pair.Pair.{Pair}
-use Rattle.store_bytes.specs.Slots.{pair_in}
-use Rattle.store_bytes.specs.Pairs.{pairs_of, AreWellFormed}
-use Rattle.store_bytes.specs.NextPlace.{IsNextPlace}
+use Rattle.cow_format.specs.Slots.{pair_in}
+use Rattle.cow_format.specs.Pairs.{pairs_of, AreWellFormed}
+use Rattle.cow_format.specs.NextPlace.{IsNextPlace}
 use Rattle.store.specs.declared.state.Left.TheVariants.{Nothing}
 use Rattle.store.specs.declared.state.State.{State}
 use Rattle.store.specs.Loading.{is_begun, is_settled}
 use Rattle.store.specs.Stored.{IsFront, IsStored, AreGiven, new_of}
 use Rattle.store.proofs.Given.{given_formed}
-use Rattle.big_steps.specs.Saves.{next_of}
-use Rattle.big_steps.specs.Order.{AreEmptyFrom, IsInOrder}
-use Rattle.big_steps.proofs.Nexts.{next_place_is}
+use Rattle.whole_commands.specs.Saves.{next_of}
+use Rattle.whole_commands.specs.Order.{AreEmptyFrom, IsInOrder}
+use Rattle.whole_commands.proofs.Nexts.{next_place_is}
 use Rattle.snapshot.specs.Held.{IsAhead}
 
 -- nothing is zeroed ahead where there is no copy

@@ -3,9 +3,9 @@ use Rattle.std.proofs.Common.{◌≡◌, ℕ, ◌*◌, ◌<◌, ◌≤◌, Bool,
 use Rattle.std.specs.Prelude.{Some}
 use Rattle.std.specs.List.{All}
 use Rattle.sector.specs.declared.pair.Pair.{Pair}
-use Rattle.store_bytes.specs.Pairs.{pairs_of, IsInside}
-use Rattle.store_bytes.specs.Picture.{place_of}
-use Rattle.store_bytes.proofs.Pictures.{place_found}
+use Rattle.cow_format.specs.Pairs.{pairs_of, IsInside}
+use Rattle.cow_format.specs.Picture.{place_of}
+use Rattle.cow_format.proofs.Pictures.{place_found}
 use Rattle.exception_arena.specs.declared.begun.Begun.{Begun}
 use Rattle.exception_arena.specs.Pending.{pairs, pair_of}
 use Rattle.std.proofs.lemmas.List.{map_push, drop-map}

@@ -1,4 +1,4 @@
--- A store that is opened over a device with layers: what its load read and wrote is what `big_steps` does.
+-- A store that is opened over a device with layers: what its load read and wrote is what `whole_commands` does.
 use Rattle.std.proofs.Common.{◌≡◌, ◌≢◌, inl, inr, ℕ, zero, suc, ◌+◌, ◌*◌, ◌-◌, ◌/◌, ◌%◌, ◌<◌, ◌≤◌, Bool, true, false, List, [], ◌∷◌, length, get_or, drop, arith, refl, ap, ◌∙◌, sym, subst}
 use Rattle.std.specs.Prelude.{◌==◌, ◌&&◌, nat_lt, not, if◌then◌else◌, Option, Some, None, Result, Ok, Err}
 use Rattle.std.specs.List.{list_all}
@@ -12,9 +12,9 @@ use Rattle.sector.specs.declared.refusal.Refusal.TheVariants.{NoMemory, Io, Dama
 use Rattle.device.specs.declared.operation.Operation.{Operation}
 use Rattle.device.specs.declared.operation.Operation.TheVariants.{Flushes, Reads, Writes}
 use Rattle.device.specs.Layers.{Layer, fate, is_answered, layers_after}
-use Rattle.store_bytes.specs.Places.{chunk_at, area_place}
-use Rattle.store_bytes.specs.Pairs.{pairs_of, AreWellFormed}
-use Rattle.store_bytes.proofs.AreaPlaces.{area_of, number_in}
+use Rattle.cow_format.specs.Places.{chunk_at, area_place}
+use Rattle.cow_format.specs.Pairs.{pairs_of, AreWellFormed}
+use Rattle.cow_format.proofs.AreaPlaces.{area_of, number_in}
 use Rattle.metadata_area.specs.Cleared.{HasTail, HasNoTail}
 use Rattle.cow_header.specs.HeaderText.{found_in}
 use Rattle.cow_header.specs.declared.found.Found.{Found}
@@ -22,12 +22,12 @@ use Rattle.cow_header.specs.declared.found.Found.TheVariants.{Fresh, Header}
 use Rattle.store.specs.declared.state.State.{State}
 use Rattle.store.specs.Opening.{IsOpenedWritten, IsRefused}
 use Rattle.store.specs.Reading.{Reading, ended, all_read, read_areas as areas_read, read_found, reading, IsEnded}
-use Rattle.big_steps.specs.Loads.{trimmed, is_loadable, is_too_small}
-use Rattle.big_steps.proofs.Loadable.{formed-loadable, loadable-formed}
-use Rattle.big_steps.proofs.Trimmed.{cleared}
-use Rattle.big_steps.specs.Devices.{Device, answers, met, sectors_of}
-use Rattle.big_steps.specs.Attaching.{Tried, refuse, write_on, flush_on, flush_both, done, read_areas, last_area, has_tail, make, clear, load_as, write_tail, open_store}
-use Rattle.big_steps.proofs.FaultlessAttaching.{size_of}
+use Rattle.whole_commands.specs.Loads.{trimmed, is_loadable, is_too_small}
+use Rattle.whole_commands.proofs.Loadable.{formed-loadable, loadable-formed}
+use Rattle.whole_commands.proofs.Trimmed.{cleared}
+use Rattle.whole_commands.specs.Devices.{Device, answers, met, sectors_of}
+use Rattle.whole_commands.specs.Attaching.{Tried, refuse, write_on, flush_on, flush_both, done, read_areas, last_area, has_tail, make, clear, load_as, write_tail, open_store}
+use Rattle.whole_commands.proofs.FaultlessAttaching.{size_of}
 use Rattle.snapshot.specs.Opening.{IsOpenedAs}
 use Rattle.snapshot.specs.Attaching.{both_by, writes_by}
 

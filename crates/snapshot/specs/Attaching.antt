@@ -1,15 +1,15 @@
--- Opening a snapshot over a device that may fail, as `big_steps` has it: the origin is flushed, then the store, and the store
+-- Opening a snapshot over a device that may fail, as `whole_commands` has it: the origin is flushed, then the store, and the store
 -- again after each write of its load. This project's own.
 use Rattle.std.specs.Prelude.{ℕ, ◌*◌, List}
 use Rattle.device.specs.declared.operation.Operation.TheVariants.{Writes}
 use Rattle.device.specs.Layers.{Layer}
-use Rattle.store_bytes.specs.Places.{area_place}
+use Rattle.cow_format.specs.Places.{area_place}
 use Rattle.store.specs.declared.state.Left.{Left}
 use Rattle.store.specs.declared.state.Left.TheVariants.{FirstArea, HeaderChunk, Tail, Nothing}
 use Rattle.store.specs.declared.state.State.{State}
 use Rattle.store.specs.Loading.{with_left}
-use Rattle.big_steps.specs.Devices.{Device}
-use Rattle.big_steps.specs.Attaching.{Tried, write_on, flush_on, flush_both, done}
+use Rattle.whole_commands.specs.Devices.{Device}
+use Rattle.whole_commands.specs.Attaching.{Tried, write_on, flush_on, flush_both, done}
 
 abbrev pub device_of : {B : Type 0} → (B → List ℕ) → (B → List Layer) → B → Device
 device_of contents layers device = record { bytes = contents device; layers = layers device }

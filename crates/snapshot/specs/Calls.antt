@@ -3,7 +3,7 @@ use Rattle.std.specs.Prelude.{◌≡◌, ℕ, ◌+◌, ◌-◌, ◌*◌, false, 
 use Rattle.std.specs.Global.{Vec}
 use Rattle.sector.specs.Bytes.{sectors_at}
 use Rattle.device.specs.Layers.{Layer}
-use Rattle.store_bytes.specs.NextPlace.{stepped}
+use Rattle.cow_format.specs.NextPlace.{stepped}
 use Rattle.in_flight.specs.Copies.{count_of}
 use Rattle.in_flight.specs.declared.copies.ChunkCopy.{ChunkCopy}
 use Rattle.in_flight.specs.declared.copies.Stage.{Stage}

@@ -7,8 +7,8 @@ use Rattle.device.specs.declared.block.Block as Block
 use Rattle.device.specs.declared.operation.Operation.TheVariants.{Flushes}
 use Rattle.layers.specs.Ticks.{layers_ticked}
 use Rattle.chunk_alloc.specs.declared.usage.Usage.{Usage}
-use Rattle.store_bytes.specs.NextPlace.{IsFull}
-use Rattle.stop_laws.specs.Firm.{AddsNow, IsFirm}
+use Rattle.cow_format.specs.NextPlace.{IsFull}
+use Rattle.crash_laws.specs.Firm.{AddsNow, IsFirm}
 use Rattle.store.specs.Layering.{IsRelayered}
 use Rattle.store.specs.declared.state.State.{State}
 use Rattle.snapshot.specs.InStep.{IsInStep}

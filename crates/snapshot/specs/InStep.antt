@@ -4,8 +4,8 @@ use Rattle.std.specs.Prelude.{◌≡◌, not, ℕ, true, false, List, ◌++◌, 
 use Rattle.sector.specs.Bytes.{sector_at}
 use Rattle.sector.specs.declared.refusal.Refusal.{Refusal}
 use Rattle.device.specs.Layers.{Layer, is_loud}
-use Rattle.store_bytes.specs.Pairs.{pairs_of, AreWellFormed}
-use Rattle.store_bytes.specs.NextPlace.{IsNextPlace}
+use Rattle.cow_format.specs.Pairs.{pairs_of, AreWellFormed}
+use Rattle.cow_format.specs.NextPlace.{IsNextPlace}
 use Rattle.cow_header.specs.HeaderText.{found_in}
 use Rattle.cow_header.specs.declared.found.Found.{Found}
 use Rattle.store.specs.Headed.{marked_as}

@@ -5,7 +5,7 @@ use Rattle.sector.specs.declared.refusal.Refusal.{Refusal}
 use Rattle.sector.specs.declared.refusal.Refusal.TheVariants.{Io}
 use Rattle.device.specs.declared.operation.Operation.TheVariants.{Flushes}
 use Rattle.device.specs.Layers.{Layer, is_loud}
-use Rattle.store_bytes.specs.NextPlace.{IsNextPlace}
+use Rattle.cow_format.specs.NextPlace.{IsNextPlace}
 use Rattle.plain_machine.specs.Plain.{overflow_of}
 use Rattle.cow_header.specs.HeaderText.{found_in}
 use Rattle.cow_header.specs.declared.found.Found.{Found}

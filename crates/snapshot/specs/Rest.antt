@@ -1,8 +1,8 @@
 -- A live snapshot of which nothing is under way: what its store's bytes say of it. This project's own.
 use Rattle.std.specs.Prelude.{◌≡◌, ℕ, false, List}
-use Rattle.store_bytes.specs.Pairs.{pairs_of}
-use Rattle.big_steps.specs.Saves.{next_of}
-use Rattle.big_steps.specs.Order.{IsInOrder}
+use Rattle.cow_format.specs.Pairs.{pairs_of}
+use Rattle.whole_commands.specs.Saves.{next_of}
+use Rattle.whole_commands.specs.Order.{IsInOrder}
 use Rattle.snapshot.specs.Kept.{Kept}
 
 -- its store is in order, its pairs and its next place are those of the store's bytes, no area is zeroed ahead, and the mark

@@ -3,13 +3,13 @@
 use Rattle.std.specs.Prelude.{◌⊎◌, ℕ, List, [], Result, Ok, Err}
 use Rattle.sector.specs.declared.pair.Pair.{Pair}
 use Rattle.sector.specs.declared.refusal.Refusal.{Refusal}
-use Rattle.store_bytes.specs.Pairs.{pairs_of}
+use Rattle.cow_format.specs.Pairs.{pairs_of}
 use Rattle.cow_header.specs.declared.found.Found.{Found}
 use Rattle.cow_header.specs.declared.found.Found.TheVariants.{Fresh, Header}
 use Rattle.store.specs.declared.state.Left.{Left}
 use Rattle.store.specs.declared.state.Left.TheVariants.{FirstArea, HeaderChunk, Tail, Nothing}
 use Rattle.store.specs.Stopping.{LoadsFirst, IsFreshAgain, MayPrepare}
-use Rattle.stop_laws.specs.Stop.{MayLeave}
+use Rattle.crash_laws.specs.Stop.{MayLeave}
 
 -- What may be left after some of a load's operations, by what was left of it before them.
 abbrev pub MayPrepareAll : Left → ℕ → ℕ → ℕ → List Pair → List ℕ → Type 0

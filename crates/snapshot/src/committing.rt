@@ -5,7 +5,7 @@ ghost use Rattle.std.specs.List.{All, remove};
 ghost use Rattle.sector.specs.Bytes.{with_part, with_sectors};
 ghost use Rattle.device.specs.declared.operation.Operation.TheVariants.{Writes};
 ghost use Rattle.device.specs.Layers.{is_loud};
-ghost use Rattle.store_bytes.specs.Places.{area_place};
+ghost use Rattle.cow_format.specs.Places.{area_place};
 ghost use Rattle.in_flight.specs.declared.copies.Mark.{Mark};
 ghost use Rattle.in_flight.specs.declared.copies.Stage.TheVariants.{Flushed};
 ghost use Rattle.store.specs.Operations.{IsOneOperation};

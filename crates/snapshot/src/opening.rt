@@ -7,13 +7,13 @@ ghost use Rattle.sector.specs.declared.refusal.Refusal.TheVariants.{NoMemory, Io
 ghost use Rattle.chunk.specs.Sizes.{is_chunk};
 ghost use Rattle.device.specs.declared.operation.Operation.TheVariants.{Flushes};
 ghost use Rattle.device.specs.Layers.{is_loud};
-ghost use Rattle.store_bytes.specs.Places.{slot, ChangesOnly};
+ghost use Rattle.cow_format.specs.Places.{slot, ChangesOnly};
 ghost use Rattle.store.specs.declared.state.Left.TheVariants.{Nothing};
 ghost use Rattle.store.specs.Held.{committed, pending, reserved};
 ghost use Rattle.store.specs.Loading.{after_write, chunk_left, is_left, with_left};
 ghost use Rattle.store.specs.Opening.{IsRefused, faults_after};
 ghost use Rattle.store.specs.Stopping.{MayPrepare};
-ghost use Rattle.store_bytes.specs.Picture.{picture};
+ghost use Rattle.cow_format.specs.Picture.{picture};
 ghost use Rattle.volume_laws.specs.Steps.{IsNewSnap};
 ghost use Rattle.snapshot.specs.InStep.{IsInStep};
 ghost use Rattle.snapshot.specs.Kept.{books_of};
@@ -21,9 +21,9 @@ ghost use Rattle.snapshot.specs.Opening.{IsOpenedAs, prepared, shown_array, Chan
 ghost use Rattle.snapshot.specs.Opened.{IsOpened, IsBack, IsFlushedAs, IsOriginBack};
 ghost use Rattle.snapshot.specs.StopsOpening.{Leaves, MayOpen, MayPrepareAll};
 ghost use Rattle.store.specs.Reading.{AreRead};
-ghost use Rattle.stop_laws.specs.Firm.{IsFirm};
-ghost use Rattle.big_steps.specs.Attaching.{Tried, open_store, refuse, done};
-ghost use Rattle.big_steps.specs.Devices.{Device};
+ghost use Rattle.crash_laws.specs.Firm.{IsFirm};
+ghost use Rattle.whole_commands.specs.Attaching.{Tried, open_store, refuse, done};
+ghost use Rattle.whole_commands.specs.Devices.{Device};
 ghost use Rattle.snapshot.specs.Attaching.{both_by, device_of, next_by, prepared_by};
 ghost use Rattle.store.specs.Calls.{CountsFault, EndsFirm, KeepsExceptions, KeepsSize, StaysAsLoud};
 ghost use Rattle.store.specs.Opened.{EitherAddsNow, EitherAsLoud, EitherCounts, EitherKeeps, HasNoCopies, HasNoRoom};

@@ -1,9 +1,9 @@
 // A snapshot, and what callers ask of it.
 ghost use Rattle.std.specs.Prelude.{◌≡◌, ◌==◌, ◌&&◌, not, ℕ, ◌+◌, ◌*◌, ◌<◌, ◌≤◌, length, MatchBool, Some, true, false};
 ghost use Rattle.chunk.specs.Sizes.{is_chunk};
-ghost use Rattle.store_bytes.specs.NextPlace.{IsFull, LacksArea};
-ghost use Rattle.store_bytes.specs.Places.{area_place};
-ghost use Rattle.store_bytes.specs.Picture.{place_of as place_in};
+ghost use Rattle.cow_format.specs.NextPlace.{IsFull, LacksArea};
+ghost use Rattle.cow_format.specs.Places.{area_place};
+ghost use Rattle.cow_format.specs.Picture.{place_of as place_in};
 ghost use Rattle.volume_laws.specs.Published.{is_published as is_published_in};
 ghost use Rattle.device.specs.Layers.{is_loud};
 ghost use Rattle.snapshot.specs.Kept.{batch_of, is_among, needs_area, waits_area};

@@ -3,7 +3,7 @@ ghost use Rattle.std.specs.Prelude.{◌≡◌, ◌==◌, ℕ, ◌+◌, ◌-◌, 
 ghost use Rattle.std.specs.List.{list_any};
 ghost use Rattle.sector.specs.declared.refusal.Refusal.TheVariants.{NoMemory};
 ghost use Rattle.chunk.specs.Sizes.{is_chunk};
-ghost use Rattle.store_bytes.specs.Picture.{place_of as place_in};
+ghost use Rattle.cow_format.specs.Picture.{place_of as place_in};
 ghost use Rattle.plain_machine.specs.Plain.{overflow_of};
 ghost use Rattle.in_flight.specs.Copies.{count_of};
 ghost use Rattle.store.specs.declared.state.Left.TheVariants.{Nothing};

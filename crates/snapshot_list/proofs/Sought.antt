@@ -8,7 +8,7 @@ use Rattle.std.proofs.lemmas.List.{map-append}
 use Rattle.std.proofs.lemmas.List.Elements.{All-nil, All-append}
 use Rattle.std.proofs.lemmas.List.FromFn.{length-range_with_len, get_or-range_with_len}
 use Rattle.std.proofs.Math.Seq.{take-suc}
-use Rattle.store_bytes.specs.Picture.{place_of}
+use Rattle.cow_format.specs.Picture.{place_of}
 use Rattle.chunk.specs.Pieces.{touched, chunks_over}
 use Rattle.in_flight.specs.Due.{first_by}
 use Rattle.in_flight.specs.declared.copies.ChunkCopy.{ChunkCopy}

@@ -2,7 +2,7 @@
 -- Where requests of the origin go while a merge is begun, and which of its writes start no copies. This project's own.
 use Rattle.std.specs.Prelude.{◌||◌, ℕ, ◌/◌, Bool, false, Option, Some, None}
 use Rattle.std.specs.Option.{is_some}
-use Rattle.store_bytes.specs.Picture.{place_of}
+use Rattle.cow_format.specs.Picture.{place_of}
 use Rattle.volume_laws.specs.Again.{has_chunk}
 use Rattle.merge.specs.Lists.{group_pairs}
 use Rattle.merge.specs.Merging.{Merging}

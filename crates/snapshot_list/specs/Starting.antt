@@ -8,7 +8,7 @@ use Rattle.std.specs.List.{list_any}
 use Rattle.std.specs.Option.{is_some, unwrap_or}
 use Rattle.std.specs.Global.{Vec}
 use Rattle.device.specs.Layers.{Layer}
-use Rattle.store_bytes.specs.Picture.{place_of}
+use Rattle.cow_format.specs.Picture.{place_of}
 use Rattle.in_flight.specs.Copies.{count_of}
 use Rattle.in_flight.specs.Routes.{refused_of}
 use Rattle.in_flight.specs.declared.flights.Flight.{Flight}

@@ -1,7 +1,7 @@
 // Requests of the origin are routed beside a merge, and held writes routed again, by the snapshots and by the merge.
 ghost use Rattle.std.specs.Prelude.{◌≡◌, ◌<◌, ◌/◌, false, map, true};
 ghost use Rattle.std.specs.List.{All};
-ghost use Rattle.store_bytes.specs.Picture.{place_of as place_in};
+ghost use Rattle.cow_format.specs.Picture.{place_of as place_in};
 ghost use Rattle.in_flight.specs.declared.flights.Route.{Route};
 ghost use Rattle.in_flight.specs.Routes.{again_route_of, write_route_of};
 ghost use Rattle.volume_laws.specs.Again.{again_of, has_chunk, new_route};

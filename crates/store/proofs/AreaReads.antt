@@ -8,9 +8,9 @@ use Rattle.sector.specs.declared.pair.Pair.{Pair}
 use Rattle.device.specs.declared.operation.Operation.{Operation}
 use Rattle.device.specs.declared.operation.Operation.TheVariants.{Reads}
 use Rattle.device.specs.Layers.{Layer, fate, is_answered, layers_after}
-use Rattle.store_bytes.specs.Places.{area_place}
-use Rattle.store_bytes.specs.Pairs.{pairs_of}
-use Rattle.store_bytes.proofs.AreaPlaces.{area_of}
+use Rattle.cow_format.specs.Places.{area_place}
+use Rattle.cow_format.specs.Pairs.{pairs_of}
+use Rattle.cow_format.proofs.AreaPlaces.{area_of}
 use Rattle.store.specs.Loaded.{IsPrefix, IsRead}
 use Rattle.store.specs.Reading.{Reading, ended, all_read, read_on, read_areas, read_pairs, AreRead}
 use Rattle.store.proofs.Loads.{prefix_low}

@@ -7,11 +7,11 @@ use Rattle.sector.specs.Bytes.{with_sectors}
 use Rattle.sector.specs.declared.pair.Pair.{Pair}
 use Rattle.sector.proofs.Numbers.{same_number}
 use Rattle.sector.proofs.Sectors.{sectors_at-with_same, byte_outside, length-with_sectors}
-use Rattle.store_bytes.specs.Slots.{pair_in}
+use Rattle.cow_format.specs.Slots.{pair_in}
 use Rattle.metadata_area.specs.Cleared.{zero_from}
-use Rattle.store_bytes.specs.Places.{chunk_at, area_place, ChangesOnly}
-use Rattle.store_bytes.specs.Pairs.{pairs_of}
-use Rattle.store_bytes.proofs.Slots.{changes_only, slot-at, IsListed-of}
+use Rattle.cow_format.specs.Places.{chunk_at, area_place, ChangesOnly}
+use Rattle.cow_format.specs.Pairs.{pairs_of}
+use Rattle.cow_format.proofs.Slots.{changes_only, slot-at, IsListed-of}
 
 -- a pair of no chunks, for lists that need one
 unfoldable pub no_chunks : Pair

@@ -4,11 +4,11 @@ use Rattle.std.proofs.lemmas.Bool.{cases_lt, false≢true, true≢false}
 use Rattle.std.proofs.lemmas.List.{length-replicate, get_or_append_left, get_or-append-add}
 use Rattle.sector.specs.Bytes.{with_sectors}
 use Rattle.sector.specs.declared.pair.Pair.{Pair}
-use Rattle.store_bytes.specs.Slots.{pair_in}
-use Rattle.store_bytes.specs.Places.{area_place}
-use Rattle.store_bytes.specs.Pairs.{pairs_of}
-use Rattle.store_bytes.proofs.AreaPlaces.{places_apart}
-use Rattle.store_bytes.proofs.Slots.{pairs-committed}
+use Rattle.cow_format.specs.Slots.{pair_in}
+use Rattle.cow_format.specs.Places.{area_place}
+use Rattle.cow_format.specs.Pairs.{pairs_of}
+use Rattle.cow_format.proofs.AreaPlaces.{places_apart}
+use Rattle.cow_format.proofs.Slots.{pairs-committed}
 use Rattle.store.specs.Slots.{IsPut}
 use Rattle.store.specs.Loading.{is_begun, is_settled}
 use Rattle.store.specs.Stored.{IsFront, IsStored}

@@ -11,7 +11,7 @@ use Rattle.cow_header.specs.HeaderText.{found_in}
 use Rattle.cow_header.specs.declared.found.Found.{Found}
 use Rattle.cow_header.specs.declared.found.Found.TheVariants.{Fresh, Header}
 use Rattle.store.specs.Reading.{Reading, ended, all_read, read_pairs, read_found, reading, AreRead, IsEnded}
-use Rattle.store_bytes.specs.Pairs.{pairs_of}
+use Rattle.cow_format.specs.Pairs.{pairs_of}
 use Rattle.store.proofs.AreaReads.{first_read, no_more, reads_on, reads_areas}
 
 -- a device without sectors is not read

@@ -7,12 +7,12 @@ use Rattle.std.proofs.lemmas.List.Quantifiers.{all_pairs_push}
 use Rattle.std.specs.Prelude.{AllPairs, Some, None}
 use Rattle.std.specs.List.{All}
 use Rattle.sector.specs.declared.pair.Pair.{Pair}
-use Rattle.store_bytes.specs.Places.{area_place, is_area_place}
-use Rattle.store_bytes.specs.Pairs.{IsApart, IsInside, AreWellFormed}
-use Rattle.store_bytes.specs.NextPlace.{IsNextPlace, stepped}
-use Rattle.store_bytes.specs.Picture.{place_of}
-use Rattle.store_bytes.proofs.AreaPlaces.{area_of}
-use Rattle.store_bytes.proofs.NextPlaces.{next-taken}
+use Rattle.cow_format.specs.Places.{area_place, is_area_place}
+use Rattle.cow_format.specs.Pairs.{IsApart, IsInside, AreWellFormed}
+use Rattle.cow_format.specs.NextPlace.{IsNextPlace, stepped}
+use Rattle.cow_format.specs.Picture.{place_of}
+use Rattle.cow_format.proofs.AreaPlaces.{area_of}
+use Rattle.cow_format.proofs.NextPlaces.{next-taken}
 use Rattle.store.specs.Stored.{IsFront, AreGiven, new_of}
 use Rattle.store.specs.declared.state.State.{State}
 

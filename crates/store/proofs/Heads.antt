@@ -6,7 +6,7 @@ use Rattle.sector.specs.Bytes.{sector_at, with_sectors}
 use Rattle.sector.specs.Number.{number_at}
 use Rattle.sector.proofs.Numbers.{same_number, length-number_bytes}
 use Rattle.sector.proofs.Sectors.{byte_inside, byte_read}
-use Rattle.store_bytes.specs.Places.{chunk_at, area_place, ChangesOnly}
+use Rattle.cow_format.specs.Places.{chunk_at, area_place, ChangesOnly}
 use Rattle.chunk.specs.Sizes.{is_chunk}
 use Rattle.cow_header.specs.HeaderText.{found_in, found_by, header_bytes}
 use Rattle.cow_header.specs.declared.found.Found.TheVariants.{Header}

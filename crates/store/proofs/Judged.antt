@@ -4,7 +4,7 @@ use Rattle.std.specs.List.{All}
 use Rattle.std.proofs.lemmas.List.{get_or-map, length-map, map_more}
 use Rattle.std.proofs.lemmas.Nat.{mul-le}
 use Rattle.sector.specs.declared.pair.Pair.{Pair}
-use Rattle.store_bytes.specs.Pairs.{IsInside}
+use Rattle.cow_format.specs.Pairs.{IsInside}
 use Rattle.chunk_alloc.specs.Greatest.{IsGreatest}
 use Rattle.chunk_alloc.proofs.Greatest.{greatest-push}
 use Rattle.store.proofs.Areas.{no_chunks}

@@ -4,11 +4,11 @@ use Rattle.std.proofs.lemmas.Bool.{cases_lt}
 use Rattle.std.proofs.lemmas.List.{get_or_append_left, get_or_push, length_push}
 use Rattle.std.proofs.lemmas.Nat.{mul-le}
 use Rattle.sector.specs.declared.pair.Pair.{Pair}
-use Rattle.store_bytes.specs.Slots.{pair_in}
-use Rattle.store_bytes.specs.Places.{chunk_at, area_place, slot}
-use Rattle.store_bytes.specs.Pairs.{pairs_of}
-use Rattle.store_bytes.proofs.AreaPlaces.{rows_below}
-use Rattle.store_bytes.proofs.Slots.{slot-at, pairs-are, IsListed-of}
+use Rattle.cow_format.specs.Slots.{pair_in}
+use Rattle.cow_format.specs.Places.{chunk_at, area_place, slot}
+use Rattle.cow_format.specs.Pairs.{pairs_of}
+use Rattle.cow_format.proofs.AreaPlaces.{rows_below}
+use Rattle.cow_format.proofs.Slots.{slot-at, pairs-are, IsListed-of}
 use Rattle.store.specs.Loaded.{IsLoaded, IsPrefix, IsRead}
 use Rattle.store.proofs.Areas.{no_chunks}
 

@@ -2,8 +2,8 @@
 use Rattle.std.proofs.Common.{◌≡◌, inl, inr, ℕ, ◌<◌, Bool, List, sym, ap, ◌∙◌, subst, true, false}
 use Rattle.std.proofs.lemmas.Bool.{false≢true}
 use Rattle.sector.specs.Bytes.{sector_at}
-use Rattle.stop_laws.specs.Stop.{IsTorn, MayLeave, Within}
-use Rattle.stop_laws.specs.Firm.{AddsNow, IsFirm}
+use Rattle.crash_laws.specs.Stop.{IsTorn, MayLeave, Within}
+use Rattle.crash_laws.specs.Firm.{AddsNow, IsFirm}
 use Rattle.store.specs.Loading.{is_left}
 use Rattle.store.specs.declared.state.Left.{Left}
 use Rattle.store.specs.declared.state.Left.TheVariants.{Nothing}

@@ -4,11 +4,11 @@ use Rattle.std.proofs.lemmas.Bool.{cases_lt, false≢true, true≢false}
 use Rattle.std.proofs.lemmas.List.{get_or-take, length-take-le, length-replicate, get_or_append_left}
 use Rattle.sector.specs.Bytes.{with_part, with_sectors}
 use Rattle.sector.specs.declared.pair.Pair.{Pair}
-use Rattle.store_bytes.specs.Slots.{pair_in}
-use Rattle.store_bytes.specs.Places.{chunk_at, area_place}
-use Rattle.store_bytes.specs.Pairs.{IsApart, IsInside}
-use Rattle.store_bytes.proofs.AreaPlaces.{places_apart}
-use Rattle.store_bytes.proofs.Slots.{pairs-cleared}
+use Rattle.cow_format.specs.Slots.{pair_in}
+use Rattle.cow_format.specs.Places.{chunk_at, area_place}
+use Rattle.cow_format.specs.Pairs.{IsApart, IsInside}
+use Rattle.cow_format.proofs.AreaPlaces.{places_apart}
+use Rattle.cow_format.proofs.Slots.{pairs-cleared}
 use Rattle.metadata_area.specs.Cleared.{no_pair, zero_slots}
 use Rattle.store.specs.Loading.{is_begun, is_settled}
 use Rattle.store.specs.Stored.{IsFront, IsStored, AreGiven}

@@ -4,11 +4,11 @@ use Rattle.std.specs.Prelude.{AllPairs}
 use Rattle.std.specs.List.{All}
 use Rattle.std.proofs.lemmas.Bool.{cases_eq, false≢true, true≢false}
 use Rattle.sector.specs.declared.pair.Pair.{Pair}
-use Rattle.store_bytes.specs.Slots.{pair_in}
-use Rattle.store_bytes.specs.Places.{area_place, slot}
-use Rattle.store_bytes.specs.Pairs.{pairs_of, IsApart, IsInside, AreWellFormed}
-use Rattle.store_bytes.proofs.AreaPlaces.{area_of}
-use Rattle.store_bytes.proofs.Slots.{slot-at, IsListed-of}
+use Rattle.cow_format.specs.Slots.{pair_in}
+use Rattle.cow_format.specs.Places.{area_place, slot}
+use Rattle.cow_format.specs.Pairs.{pairs_of, IsApart, IsInside, AreWellFormed}
+use Rattle.cow_format.proofs.AreaPlaces.{area_of}
+use Rattle.cow_format.proofs.Slots.{slot-at, IsListed-of}
 use Rattle.metadata_area.specs.Cleared.{zero_from}
 use Rattle.sector.specs.Bytes.{sector_at}
 use Rattle.chunk.specs.Sizes.{is_chunk}
@@ -17,7 +17,7 @@ use Rattle.store.specs.Headed.{head_of}
 use Rattle.store.specs.Loaded.{IsRead, IsCleared}
 use Rattle.store.specs.Stored.{IsFront, IsStored, new_of}
 use Rattle.std.proofs.lemmas.List.{get_or-map, length-map}
-use Rattle.store_bytes.proofs.NextPlaces.{place_small}
+use Rattle.cow_format.proofs.NextPlaces.{place_small}
 use Rattle.chunk_alloc.specs.Greatest.{IsGreatest}
 use Rattle.store.specs.declared.state.State.{State}
 use Rattle.store.proofs.Areas.{no_chunks, slot_listed}

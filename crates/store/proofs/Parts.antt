@@ -6,8 +6,8 @@ use Rattle.sector.specs.Bytes.{sectors_at, with_part, with_sectors}
 use Rattle.sector.specs.Number.{number_bytes}
 use Rattle.sector.specs.declared.pair.Pair.{Pair}
 use Rattle.sector.proofs.Numbers.{length-number_bytes}
-use Rattle.store_bytes.specs.Slots.{pair_bytes, pair_in, with_pair}
-use Rattle.store_bytes.specs.Places.{chunk_at}
+use Rattle.cow_format.specs.Slots.{pair_bytes, pair_in, with_pair}
+use Rattle.cow_format.specs.Places.{chunk_at}
 use Rattle.metadata_area.specs.Cleared.{zero_from}
 use Rattle.store.specs.Slots.{pairs_bytes, IsPut}
 

@@ -3,8 +3,8 @@ use Rattle.std.proofs.Common.{◌≡◌, ◌≢◌, ℕ, ◌+◌, ◌*◌, ◌<�
 use Rattle.std.specs.Prelude.{None}
 use Rattle.std.proofs.lemmas.List.{get_or-map, get_or-take, length-map, length-take-le, map_more, map-append}
 use Rattle.sector.specs.declared.pair.Pair.{Pair}
-use Rattle.store_bytes.specs.NextPlace.{stepped}
-use Rattle.store_bytes.specs.Picture.{place_of}
+use Rattle.cow_format.specs.NextPlace.{stepped}
+use Rattle.cow_format.specs.Picture.{place_of}
 use Rattle.exception_arena.specs.declared.begun.Begun.{Begun}
 use Rattle.exception_arena.specs.Pending.{pair_of, pairs}
 use Rattle.store.specs.Stored.{AreGiven}

@@ -2,17 +2,17 @@
 use Rattle.std.proofs.Common.{◌≡◌, ◌≢◌, ◌⊎◌, inl, inr, ℕ, ◌+◌, ◌*◌, ◌<◌, List, [], ◌++◌, length, arith, ap, ◌∙◌, sym, subst, Ok, append-nil, true}
 use Rattle.sector.specs.Bytes.{sector_at}
 use Rattle.sector.specs.declared.pair.Pair.{Pair}
-use Rattle.store_bytes.specs.Places.{area_place, slot, ChangesOnly}
-use Rattle.store_bytes.specs.Pairs.{pairs_of, AreWellFormed}
-use Rattle.store_bytes.proofs.Slots.{pairs-outside}
+use Rattle.cow_format.specs.Places.{area_place, slot, ChangesOnly}
+use Rattle.cow_format.specs.Pairs.{pairs_of, AreWellFormed}
+use Rattle.cow_format.proofs.Slots.{pairs-outside}
 use Rattle.cow_header.specs.HeaderText.{found_in}
 use Rattle.cow_header.specs.declared.found.Found.TheVariants.{Header}
 use Rattle.exception_arena.specs.Pending.{pairs}
-use Rattle.stop_laws.specs.Stop.{IsTorn}
-use Rattle.stop_laws.proofs.Between.{IsBetween}
-use Rattle.stop_laws.proofs.Areas.{between_all, torn_pairs}
-use Rattle.stop_laws.proofs.Loads.{torn_commit_loads}
-use Rattle.stop_laws.proofs.Torn.{torn_only}
+use Rattle.crash_laws.specs.Stop.{IsTorn}
+use Rattle.crash_laws.proofs.Between.{IsBetween}
+use Rattle.crash_laws.proofs.Areas.{between_all, torn_pairs}
+use Rattle.crash_laws.proofs.Loads.{torn_commit_loads}
+use Rattle.crash_laws.proofs.Torn.{torn_only}
 use Rattle.store.specs.Headed.{head_of, marked_as}
 use Rattle.store.specs.Loading.{is_begun}
 use Rattle.store.specs.Stored.{IsFront, IsStored, AreGiven}

@@ -5,11 +5,11 @@ use Rattle.std.proofs.lemmas.List.{length-replicate, nil_from_length}
 use Rattle.std.proofs.lemmas.Nat.{mul-le, mod-mul-add}
 use Rattle.sector.specs.Bytes.{sector_at, with_sectors}
 use Rattle.sector.specs.declared.pair.Pair.{Pair}
-use Rattle.store_bytes.specs.Slots.{pair_in}
-use Rattle.store_bytes.specs.Places.{chunk_at, area_place, is_area_place, slot, ChangesOnly}
-use Rattle.store_bytes.specs.Pairs.{pairs_of}
-use Rattle.store_bytes.proofs.AreaPlaces.{places_apart, place_is}
-use Rattle.store_bytes.proofs.Slots.{pairs-committed, pairs-outside, pairs-later, pairs-are, slot-at}
+use Rattle.cow_format.specs.Slots.{pair_in}
+use Rattle.cow_format.specs.Places.{chunk_at, area_place, is_area_place, slot, ChangesOnly}
+use Rattle.cow_format.specs.Pairs.{pairs_of}
+use Rattle.cow_format.proofs.AreaPlaces.{places_apart, place_is}
+use Rattle.cow_format.proofs.Slots.{pairs-committed, pairs-outside, pairs-later, pairs-are, slot-at}
 use Rattle.metadata_area.specs.Cleared.{zero_from}
 use Rattle.cow_header.specs.HeaderText.{found_in}
 use Rattle.store.specs.Headed.{head_of, marked_as}

@@ -8,9 +8,9 @@ use Rattle.device.specs.declared.block.Block as Block
 use Rattle.device.specs.declared.operation.Operation.{Operation}
 use Rattle.device.specs.declared.operation.Operation.TheVariants.{Flushes, Reads, Writes}
 use Rattle.layers.specs.Ticks.{layers_ticked}
-use Rattle.store_bytes.specs.Places.{ChangesOnly, area_place}
+use Rattle.cow_format.specs.Places.{ChangesOnly, area_place}
 use Rattle.cow_header.specs.HeaderText.{header_bytes}
-use Rattle.stop_laws.specs.Firm.{AddsNow, IsFirm}
+use Rattle.crash_laws.specs.Firm.{AddsNow, IsFirm}
 use Rattle.store.specs.Held.{committed, memory, pending, reserved}
 use Rattle.store.specs.Layering.{IsRelayered}
 use Rattle.store.specs.Operations.{IsOneOperation}

@@ -2,7 +2,7 @@
 use Rattle.std.specs.Prelude.{◌≡◌, IsTrue, List}
 use Rattle.device.specs.Layers.{Layer, is_loud}
 use Rattle.device.specs.declared.block.Block as Block
-use Rattle.stop_laws.specs.Firm.{AddsNow}
+use Rattle.crash_laws.specs.Firm.{AddsNow}
 
 -- this of a device is as it was
 abbrev pub Keeps : {B C : Type 0} → (B → C) → B → B → Type 0

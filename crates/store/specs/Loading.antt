@@ -3,7 +3,7 @@
 -- dm-snap-persistent.c.
 use Rattle.std.specs.Prelude.{ℕ, ◌+◌, ◌-◌, ◌*◌, Bool, true, false, if◌then◌else◌, List, replicate}
 use Rattle.sector.specs.Bytes.{with_part, with_sectors}
-use Rattle.store_bytes.specs.Places.{area_place}
+use Rattle.cow_format.specs.Places.{area_place}
 use Rattle.cow_header.specs.HeaderText.{header_bytes}
 use Rattle.store.specs.Slots.{slot_start}
 use Rattle.store.specs.declared.state.Left.{Left}

@@ -3,7 +3,7 @@ use Rattle.std.specs.Prelude.{◌≡◌, [], MatchResult, Result}
 use Rattle.sector.specs.declared.refusal.Refusal.{Refusal}
 use Rattle.device.specs.Layers.{is_loud}
 use Rattle.device.specs.declared.block.Block as Block
-use Rattle.stop_laws.specs.Firm.{AddsNow}
+use Rattle.crash_laws.specs.Firm.{AddsNow}
 use Rattle.store.specs.Held.{pending, reserved}
 use Rattle.store.specs.Opening.{faults_after}
 use Rattle.store.specs.declared.store.Store.{Store}

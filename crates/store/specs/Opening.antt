@@ -4,8 +4,8 @@ use Rattle.sector.specs.Bytes.{sector_at, next_count}
 use Rattle.sector.specs.declared.pair.Pair.{Pair}
 use Rattle.sector.specs.declared.refusal.Refusal.{Refusal}
 use Rattle.sector.specs.declared.refusal.Refusal.TheVariants.{NoMemory, Io, BadHeader, BadVersion, BadChunk, Invalid, StoreTooSmall, Damaged}
-use Rattle.store_bytes.specs.Places.{chunk_at, area_place}
-use Rattle.store_bytes.specs.Pairs.{pairs_of, AreWellFormed}
+use Rattle.cow_format.specs.Places.{chunk_at, area_place}
+use Rattle.cow_format.specs.Pairs.{pairs_of, AreWellFormed}
 use Rattle.metadata_area.specs.Cleared.{HasTail, HasNoTail}
 use Rattle.cow_header.specs.HeaderText.{found_in}
 use Rattle.cow_header.specs.declared.found.Found.{Found}

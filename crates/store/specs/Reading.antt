@@ -7,8 +7,8 @@ use Rattle.sector.specs.declared.refusal.Refusal.TheVariants.{NoMemory, Io, Stor
 use Rattle.device.specs.declared.operation.Operation.{Operation}
 use Rattle.device.specs.declared.operation.Operation.TheVariants.{Reads}
 use Rattle.device.specs.Layers.{Layer, fate, is_answered, layers_after}
-use Rattle.store_bytes.specs.Places.{area_place}
-use Rattle.store_bytes.specs.Pairs.{pairs_of}
+use Rattle.cow_format.specs.Places.{area_place}
+use Rattle.cow_format.specs.Pairs.{pairs_of}
 use Rattle.cow_header.specs.HeaderText.{found_in}
 use Rattle.cow_header.specs.declared.found.Found.{Found}
 use Rattle.cow_header.specs.declared.found.Found.TheVariants.{Fresh, Header}

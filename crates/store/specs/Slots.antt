@@ -2,8 +2,8 @@
 use Rattle.std.specs.Prelude.{◌≡◌, ◌⊎◌, ℕ, ◌+◌, ◌*◌, ◌<◌, ◌≤◌, List, [], ◌∷◌, ◌++◌, length, slice_index_or}
 use Rattle.sector.specs.Bytes.{with_part}
 use Rattle.sector.specs.declared.pair.Pair.{Pair}
-use Rattle.store_bytes.specs.Slots.{pair_bytes, pair_in}
-use Rattle.store_bytes.specs.Places.{area_place}
+use Rattle.cow_format.specs.Slots.{pair_bytes, pair_in}
+use Rattle.cow_format.specs.Places.{area_place}
 
 -- the bytes of pairs, one after the other
 abbrev pub pairs_bytes : List Pair → List ℕ

@@ -3,13 +3,13 @@
 use Rattle.std.specs.Prelude.{◌≡◌, ◌⊎◌, ℕ, ◌≤◌, List, [], ◌++◌, length, take, Ok}
 use Rattle.sector.specs.declared.pair.Pair.{Pair}
 use Rattle.sector.specs.Bytes.{sector_at}
-use Rattle.store_bytes.specs.Pairs.{pairs_of}
+use Rattle.cow_format.specs.Pairs.{pairs_of}
 use Rattle.cow_header.specs.HeaderText.{found_in}
 use Rattle.cow_header.specs.declared.found.Found.TheVariants.{Fresh}
 use Rattle.store.specs.declared.state.Left.{Left}
 use Rattle.store.specs.declared.state.Left.TheVariants.{FirstArea, HeaderChunk, Tail, Nothing}
-use Rattle.stop_laws.specs.Stop.{MayLeave, Within}
-use Rattle.stop_laws.specs.Again.{LoadsAgain}
+use Rattle.crash_laws.specs.Stop.{MayLeave, Within}
+use Rattle.crash_laws.specs.Again.{LoadsAgain}
 
 -- bytes that are loaded again, with these pairs and the first few of the others
 pub record LoadsFirst (chunk origin size : ℕ) (kept more : List Pair) (bytes : List ℕ) : Type 0 where

@@ -2,10 +2,10 @@
 use Rattle.std.specs.Prelude.{◌≡◌, ◌==◌, ℕ, ◌+◌, ◌*◌, ◌/◌, ◌<◌, ◌≤◌, Bool, true, false, List, ◌++◌, length, map, replicate, slice_index_or, AllPairs, if◌then◌else◌}
 use Rattle.std.specs.List.{All}
 use Rattle.sector.specs.declared.pair.Pair.{Pair}
-use Rattle.store_bytes.specs.Slots.{pair_in}
-use Rattle.store_bytes.specs.Places.{chunk_at, area_place}
-use Rattle.store_bytes.specs.Pairs.{pairs_of, IsApart, IsInside}
-use Rattle.store_bytes.specs.NextPlace.{IsNextPlace}
+use Rattle.cow_format.specs.Slots.{pair_in}
+use Rattle.cow_format.specs.Places.{chunk_at, area_place}
+use Rattle.cow_format.specs.Pairs.{pairs_of, IsApart, IsInside}
+use Rattle.cow_format.specs.NextPlace.{IsNextPlace}
 use Rattle.metadata_area.specs.Cleared.{zero_from}
 use Rattle.sector.specs.Bytes.{sector_at}
 use Rattle.chunk.specs.Sizes.{is_chunk}

@@ -3,7 +3,7 @@ ghost use Rattle.std.specs.Prelude.{◌≡◌, ◌⊎◌, ℕ, ◌+◌, ◌*◌,
 ghost use Rattle.sector.specs.Bytes.{sectors_at, with_sectors, next_count};
 ghost use Rattle.device.specs.declared.operation.Operation.TheVariants.{Reads, Writes};
 ghost use Rattle.device.specs.Layers.{is_loud};
-ghost use Rattle.store_bytes.specs.Places.{ChangesOnly, chunk_at};
+ghost use Rattle.cow_format.specs.Places.{ChangesOnly, chunk_at};
 ghost use Rattle.store.specs.Operations.{IsOneOperation};
 ghost use Rattle.store.specs.Devices.{AddsNowIfLoud, AddsOnlyNow, IsAsLoud, Keeps};
 

@@ -2,8 +2,8 @@
 ghost use Rattle.std.specs.Prelude.{◌≡◌, ◌+◌, ◌*◌, ◌<◌, ◌≤◌, ◌↔◌, ◌++◌, length, take, drop, OnOk, OnErr, IsTrue, true, false};
 ghost use Rattle.sector.specs.Bytes.{with_part};
 ghost use Rattle.device.specs.Layers.{is_loud};
-ghost use Rattle.store_bytes.specs.Places.{area_place, ChangesOnly};
-ghost use Rattle.store_bytes.specs.NextPlace.{LacksArea};
+ghost use Rattle.cow_format.specs.Places.{area_place, ChangesOnly};
+ghost use Rattle.cow_format.specs.NextPlace.{LacksArea};
 ghost use Rattle.store.specs.declared.state.Left.TheVariants.{Nothing};
 ghost use Rattle.exception_arena.specs.Pending.{pairs};
 ghost use Rattle.store.specs.Held.{committed, memory, pending, reserved};

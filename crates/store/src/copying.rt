@@ -3,10 +3,10 @@ ghost use Rattle.std.specs.Prelude.{◌≡◌, ◌+◌, ◌*◌, ◌<◌, ◌≤
 ghost use Rattle.sector.specs.Bytes.{sectors_at, with_sectors};
 ghost use Rattle.sector.specs.declared.refusal.Refusal.TheVariants.{NoMemory};
 ghost use Rattle.device.specs.Layers.{is_loud};
-ghost use Rattle.store_bytes.specs.Places.{ChangesOnly, is_area_place};
-ghost use Rattle.store_bytes.specs.Pairs.{IsInside};
-ghost use Rattle.store_bytes.specs.NextPlace.{IsFull, stepped};
-ghost use Rattle.store_bytes.specs.Picture.{place_of};
+ghost use Rattle.cow_format.specs.Places.{ChangesOnly, is_area_place};
+ghost use Rattle.cow_format.specs.Pairs.{IsInside};
+ghost use Rattle.cow_format.specs.NextPlace.{IsFull, stepped};
+ghost use Rattle.cow_format.specs.Picture.{place_of};
 ghost use Rattle.exception_arena.specs.Pending.{begun_under};
 ghost use Rattle.exception_arena.specs.declared.begun.Begun.{Begun};
 ghost use Rattle.store.specs.Held.{committed, memory, pending, pairs_pending, reserved};

@@ -2,13 +2,13 @@
 ghost use Rattle.std.specs.Prelude.{◌≡◌, ◌↔◌, ℕ, ◌+◌, ◌*◌, ◌<◌, ◌≤◌, ◌^◌, List, length, map, replicate, slice_index_or, slice_set, false, true, IfOk, IfErr, MatchBool, IsTrue, AllPairs};
 ghost use Rattle.std.specs.List.{All};
 ghost use Rattle.sector.specs.declared.refusal.Refusal.TheVariants.{NoMemory};
-ghost use Rattle.store_bytes.specs.Pairs.{IsApart, IsInside};
+ghost use Rattle.cow_format.specs.Pairs.{IsApart, IsInside};
 ghost use Rattle.chunk_alloc.specs.Greatest.{IsGreatest};
 ghost use Rattle.store.specs.Stored.{new_of, old_of};
 
+use cow_format::is_area_place;
 use sector::{Chunk, Pair, Refusal};
 use std::alloc::Global;
-use store_bytes::is_area_place;
 
 /// Whether each pair's chunks are there, and no chunk stands in two of them. `NoMemory` where memory for as many numbers
 /// is refused.

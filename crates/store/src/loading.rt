@@ -3,8 +3,8 @@ ghost use Rattle.std.specs.Prelude.{◌≡◌, ◌⊎◌, ℕ, ◌+◌, ◌*◌,
 ghost use Rattle.sector.specs.declared.refusal.Refusal.TheVariants.{NoMemory, Io as IoRefusal, Damaged};
 ghost use Rattle.store.specs.Reading.{all_read, read_pairs, IsEnded};
 ghost use Rattle.store.specs.Starved.{ArePartRead};
-ghost use Rattle.store_bytes.specs.Places.{area_place, chunk_at};
-ghost use Rattle.store_bytes.specs.Pairs.{pairs_of};
+ghost use Rattle.cow_format.specs.Places.{area_place, chunk_at};
+ghost use Rattle.cow_format.specs.Pairs.{pairs_of};
 ghost use Rattle.store.specs.Opening.{faults_after};
 ghost use Rattle.store.specs.Loaded.{IsLoaded, IsPrefix, IsRead};
 ghost use Rattle.store.specs.Devices.{AddsOnlyNow, IsAsLoud, Keeps};

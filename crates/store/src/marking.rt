@@ -3,7 +3,7 @@ ghost use Rattle.std.specs.Prelude.{◌≡◌, ◌*◌, ◌<◌, ◌≤◌, is_o
 ghost use Rattle.sector.specs.Bytes.{with_sectors};
 ghost use Rattle.device.specs.declared.operation.Operation.TheVariants.{Writes};
 ghost use Rattle.device.specs.Layers.{is_loud};
-ghost use Rattle.store_bytes.specs.Places.{ChangesOnly};
+ghost use Rattle.cow_format.specs.Places.{ChangesOnly};
 ghost use Rattle.cow_header.specs.HeaderText.{header_bytes};
 ghost use Rattle.store.specs.declared.state.Left.TheVariants.{HeaderChunk, Nothing};
 ghost use Rattle.store.specs.Operations.{IsOneOperation};

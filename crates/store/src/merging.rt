@@ -4,7 +4,7 @@ ghost use Rattle.sector.specs.Bytes.{sectors_at, with_part, with_sectors};
 ghost use Rattle.sector.specs.declared.pair.Pair.{Pair};
 ghost use Rattle.device.specs.Bare.{can_copy_run, count_after};
 ghost use Rattle.device.specs.Layers.{is_loud};
-ghost use Rattle.store_bytes.specs.Places.{area_place};
+ghost use Rattle.cow_format.specs.Places.{area_place};
 ghost use Rattle.store.specs.declared.state.Left.TheVariants.{Nothing};
 ghost use Rattle.store.specs.Held.{committed, memory, pending, reserved};
 ghost use Rattle.store.specs.Slots.{slot_start};

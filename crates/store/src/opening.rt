@@ -6,8 +6,8 @@ ghost use Rattle.std.specs.List.{All};
 ghost use Rattle.chunk.specs.Sizes.{is_chunk};
 ghost use Rattle.device.specs.Layers.{fate, is_answered, layers_after, is_loud};
 ghost use Rattle.device.specs.declared.operation.Operation.TheVariants.{Reads};
-ghost use Rattle.store_bytes.specs.Places.{chunk_at, area_place};
-ghost use Rattle.store_bytes.specs.Pairs.{pairs_of, IsApart, IsInside, AreWellFormed};
+ghost use Rattle.cow_format.specs.Places.{chunk_at, area_place};
+ghost use Rattle.cow_format.specs.Pairs.{pairs_of, IsApart, IsInside, AreWellFormed};
 ghost use Rattle.metadata_area.specs.Cleared.{HasTail, HasNoTail};
 ghost use Rattle.cow_header.specs.HeaderText.{found_in};
 ghost use Rattle.cow_header.specs.declared.found.Found.TheVariants.{Fresh as FoundFresh, Header as FoundHeader};
@@ -17,7 +17,7 @@ ghost use Rattle.store.specs.Opening.{IsRefused, IsOpenedFresh, IsOpenedWritten,
 ghost use Rattle.store.specs.Opened.{EitherAddsNow, EitherAsLoud, EitherCounts, EitherKeeps, HasNoCopies, HasNoRoom, MatchLoaded};
 ghost use Rattle.store.specs.Reading.{ended, all_read, read_found, read_pairs, reading, IsEnded};
 ghost use Rattle.store.specs.Starved.{ArePartRead, IsStarved};
-ghost use Rattle.stop_laws.specs.Firm.{AddsNow};
+ghost use Rattle.crash_laws.specs.Firm.{AddsNow};
 ghost use Rattle.store.specs.Devices.{AddsOnlyNow, IsAsLoud, Keeps};
 
 use crate::judging::{are_formed, greatest_new};

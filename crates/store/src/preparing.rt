@@ -2,13 +2,13 @@
 ghost use Rattle.std.specs.Prelude.{◌≡◌, ◌+◌, ◌*◌, ◌<◌, ◌↔◌, ◌||◌, length, is_ok, OnOk, OnErr, IfOk, IsTrue, Ok, true, false};
 ghost use Rattle.device.specs.declared.operation.Operation.TheVariants.{Writes, Flushes};
 ghost use Rattle.device.specs.Layers.{is_loud};
-ghost use Rattle.store_bytes.specs.Places.{ChangesOnly};
+ghost use Rattle.cow_format.specs.Places.{ChangesOnly};
 ghost use Rattle.store.specs.declared.state.Left.TheVariants.{FirstArea, HeaderChunk, Tail, Nothing};
 ghost use Rattle.store.specs.Operations.{IsOneOperation};
 ghost use Rattle.store.specs.Held.{committed};
 ghost use Rattle.store.specs.Stopping.{LeavesPreparing};
 ghost use Rattle.store.specs.Loading.{is_settled, is_begun, is_left, after_write, after_prepare, chunk_left, with_left, with_prepared};
-ghost use Rattle.stop_laws.specs.Firm.{IsFirm};
+ghost use Rattle.crash_laws.specs.Firm.{IsFirm};
 ghost use Rattle.store.specs.Calls.{ChangesOnlyArea, DoesFlush, EndsFirm, KeepsBytes, KeepsDurable, KeepsExceptions, KeepsSize, KeepsState, MayHoldNowIfLoud, StaysAsLoud, WritesArea};
 
 use crate::chunks::write_whole;

@@ -1,12 +1,12 @@
 // A store: its device, its pairs, the area that the next pair goes to, and the next place.
 ghost use Rattle.std.specs.Prelude.{◌≡◌, ℕ, ◌+◌, ◌*◌, ◌<◌, ◌≤◌, List, length, slice_index_or, OnOk, OnErr, MatchBool, IsTrue, true, false};
 ghost use Rattle.device.specs.Layers.{is_loud};
-ghost use Rattle.store_bytes.specs.NextPlace.{IsFull};
+ghost use Rattle.cow_format.specs.NextPlace.{IsFull};
 ghost use Rattle.exception_arena.specs.declared.begun.Begun.{Begun};
 ghost use Rattle.store.specs.Held.{committed, pending, pairs_pending, reserved};
 ghost use Rattle.store.specs.Loading.{is_left};
 ghost use Rattle.store.specs.Stored.{IsFront, IsStored, AreGiven};
-ghost use Rattle.stop_laws.specs.Firm.{IsFirm};
+ghost use Rattle.crash_laws.specs.Firm.{IsFirm};
 ghost use Rattle.store.specs.Usage.{HasMetadata};
 
 use crate::State;

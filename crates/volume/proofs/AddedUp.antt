@@ -12,7 +12,7 @@ use Rattle.plain_machine.specs.declared.request.Op.{Op}
 use Rattle.plain_machine.specs.declared.request.Op.TheVariants.{Read, Write, Flush}
 use Rattle.sector.specs.declared.range.Range.{Range}
 use Rattle.in_flight.specs.Kinds.{in_flight}
-use Rattle.stop_laws.specs.Clauses.{Gives}
+use Rattle.crash_laws.specs.Clauses.{Gives}
 use Rattle.volume.specs.declared.calls.Call.{Call}
 use Rattle.volume.specs.declared.calls.Call.TheVariants.{Submit, Step, Tick, Message as Tell, BeginMerge, ResumeMerge}
 use Rattle.volume.specs.AddedUp.{ComesFrom, GivesAsked, GivesCall, IsFrom, IsGiven, IsOpenIn, IsSomeOf, Merges, OpensNoneUnwritten, OpensOnly, is_write_of}

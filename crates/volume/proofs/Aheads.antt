@@ -8,13 +8,13 @@ use Rattle.std.proofs.lemmas.List.Sums.{sum-map}
 use Rattle.chunk.specs.Sizes.{is_chunk}
 use Rattle.device.specs.Ahead.{IsAhead}
 use Rattle.device.specs.Layers.{Layer, is_loud}
-use Rattle.store_bytes.specs.Pairs.{pairs_of, AreWellFormed}
+use Rattle.cow_format.specs.Pairs.{pairs_of, AreWellFormed}
 use Rattle.plain_machine.specs.declared.event.Event.{Event}
 use Rattle.in_flight.specs.Due.{number_of_flight}
 use Rattle.in_flight.specs.declared.flights.Flight.{Flight}
-use Rattle.loss_laws.specs.Kept.{Kept as Lost, SnapLasts}
-use Rattle.loss_laws.specs.Merging.{Merging as LostMerge, MergeLasts}
-use Rattle.loss_laws.proofs.Fewer.{snap_fewer, refused_fewer, merge_fewer}
+use Rattle.cache_loss_laws.specs.Kept.{Kept as Lost, SnapLasts}
+use Rattle.cache_loss_laws.specs.Merging.{Merging as LostMerge, MergeLasts}
+use Rattle.cache_loss_laws.proofs.Fewer.{snap_fewer, refused_fewer, merge_fewer}
 use Rattle.volume_laws.specs.Books.{Books, SnapBooks}
 use Rattle.volume_laws.specs.Due.{books_of as due_books, left_of}
 use Rattle.volume_laws.specs.MergeDue.{DueMerge, left_in_merge, left_beside}

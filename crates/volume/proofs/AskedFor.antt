@@ -15,7 +15,7 @@ use Rattle.plain_machine.specs.Kept.{kept, kept_range}
 use Rattle.plain_machine.specs.Legal.{IsLegalStep, Spoils}
 use Rattle.plain_machine.specs.Plain.{Plain, InFlight, asked_under, without}
 use Rattle.plain_machine.specs.Runs.{MayStep, MaySubmit}
-use Rattle.stop_laws.specs.Clauses.{Gives}
+use Rattle.crash_laws.specs.Clauses.{Gives}
 use Rattle.volume.specs.declared.calls.Call.{Call}
 use Rattle.volume.specs.declared.calls.Call.TheVariants.{Submit, Step, Tick, Message as Tell, BeginMerge, ResumeMerge}
 use Rattle.volume.specs.AddedUp.{GivesAsked, IsGiven, IsSomeOf}

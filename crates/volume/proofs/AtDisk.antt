@@ -4,7 +4,7 @@ use Rattle.std.proofs.Common.{◌≡◌, ◌≢◌, ◌⊎◌, inl, inr, ℕ, �
 use Rattle.std.specs.Prelude.{Ok, sum_by, count_by}
 use Rattle.std.proofs.lemmas.List.{get_or_default}
 use Rattle.device.specs.Layers.{Layer}
-use Rattle.store_bytes.specs.Picture.{place_of}
+use Rattle.cow_format.specs.Picture.{place_of}
 use Rattle.plain_machine.specs.declared.event.Event.TheVariants.{Issue}
 use Rattle.plain_machine.specs.declared.event.Outcome.TheVariants.{Reply as Replied}
 use Rattle.plain_machine.specs.declared.request.Dev.{Dev}

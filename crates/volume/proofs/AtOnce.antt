@@ -21,7 +21,7 @@ use Rattle.in_flight.specs.Due.{is_routed}
 use Rattle.in_flight.specs.Kinds.{in_flight, room_at}
 use Rattle.in_flight.specs.declared.flights.Flight.{Flight}
 use Rattle.in_flight.specs.declared.flights.Route.TheVariants.{Origin, Store}
-use Rattle.stop_laws.proofs.Firm.{adds_none}
+use Rattle.crash_laws.proofs.Firm.{adds_none}
 use Rattle.store.specs.Operations.{IsOneOperation}
 use Rattle.snapshot_list.proofs.Finds.{position_within}
 use Rattle.volume_laws.specs.Held.{RequestHolds}

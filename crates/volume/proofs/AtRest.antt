@@ -7,7 +7,7 @@ use Rattle.std.proofs.lemmas.List.{drop_more, nil_from_length, get_or_default}
 use Rattle.std.proofs.lemmas.List.Elements.{All-cons}
 use Rattle.device.specs.Layers.{Layer, is_loud}
 use Rattle.plain_machine.specs.declared.request.Reply.{Reply}
-use Rattle.big_steps.specs.Order.{IsInOrder}
+use Rattle.whole_commands.specs.Order.{IsInOrder}
 use Rattle.event_machine.specs.Held.{MergeHeld}
 use Rattle.event_machine.specs.MergeRest.{IsMergeResting, IsBetween}
 use Rattle.event_machine.specs.MergeSeen.{MergeSeen, held_in, merge_held_of as held_merge}

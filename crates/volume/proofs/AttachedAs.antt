@@ -1,4 +1,4 @@
--- A volume that takes a snapshot does what the machine of `big_steps` does.
+-- A volume that takes a snapshot does what the machine of `whole_commands` does.
 use Rattle.std.proofs.Common.{◌≡◌, inl, inr, ℕ, ◌+◌, ◌*◌, ◌<◌, ◌≤◌, Bool, true, false, List, [], ◌∷◌, ◌++◌, length, map, refl, sym, ap, ◌∙◌, subst, arith}
 use Rattle.std.specs.Prelude.{◌==◌, ◌&&◌, ◌||◌, not, nat_lt, nat_le, Option, Some, None}
 use Rattle.std.specs.List.{All, list_all}
@@ -9,19 +9,19 @@ use Rattle.sector.specs.declared.refusal.Refusal.{Refusal}
 use Rattle.sector.specs.declared.refusal.Refusal.TheVariants.{Stale, MergeInProgress, TooMany, BadChunk, NoMemory, NotQuiet}
 use Rattle.chunk.specs.Sizes.{is_chunk}
 use Rattle.device.specs.Layers.{Layer, is_loud}
-use Rattle.store_bytes.specs.NextPlace.{IsNextPlace}
+use Rattle.cow_format.specs.NextPlace.{IsNextPlace}
 use Rattle.plain_machine.specs.declared.request.Overflowing.{Overflowing}
 use Rattle.plain_machine.specs.declared.request.Reply.{Reply}
 use Rattle.plain_machine.specs.Plain.{overflow_of}
-use Rattle.big_steps.specs.Devices.{Device}
-use Rattle.big_steps.specs.Snaps.{Snap, Volume}
+use Rattle.whole_commands.specs.Devices.{Device}
+use Rattle.whole_commands.specs.Snaps.{Snap, Volume}
 use Rattle.event_machine.specs.Held.{SnapHeld}
 use Rattle.event_machine.specs.Rest.{IsResting, IsAtRest}
 use Rattle.event_machine.specs.Seen.{copying_of}
-use Rattle.big_steps.specs.Attaching.{Tried, Store, Attached, refuse, done, open_store, attached, with_tried, refused_attach}
-use Rattle.big_steps.proofs.FaultlessAttaching.{size_of}
-use Rattle.big_steps.proofs.Opened.{IsSound, open_sound}
-use Rattle.big_steps.proofs.Nexts.{next_place_is}
+use Rattle.whole_commands.specs.Attaching.{Tried, Store, Attached, refuse, done, open_store, attached, with_tried, refused_attach}
+use Rattle.whole_commands.proofs.FaultlessAttaching.{size_of}
+use Rattle.whole_commands.proofs.Opened.{IsSound, open_sound}
+use Rattle.whole_commands.proofs.Nexts.{next_place_is}
 use Rattle.volume_laws.specs.Steps.{IsNewSnap}
 use Rattle.snapshot.specs.declared.opening.StoreDev.{StoreDev}
 use Rattle.snapshot.specs.Kept.{Kept, books_of as snap_books}

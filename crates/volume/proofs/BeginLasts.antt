@@ -6,8 +6,8 @@ use Rattle.std.proofs.lemmas.List.{length-map, get_or-map, get_or_default}
 use Rattle.std.proofs.lemmas.List.Elements.{All-push}
 use Rattle.sector.specs.Bytes.{sector_at}
 use Rattle.device.specs.Layers.{Layer}
-use Rattle.stop_laws.specs.Stop.{MayLeave}
-use Rattle.stop_laws.specs.Again.{IsOpen}
+use Rattle.crash_laws.specs.Stop.{MayLeave}
+use Rattle.crash_laws.specs.Again.{IsOpen}
 use Rattle.volume_laws.proofs.Lists.{All-remove}
 use Rattle.snapshot.specs.Kept.{Kept}
 use Rattle.snapshot_list.proofs.Finds.{position_within}

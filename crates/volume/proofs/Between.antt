@@ -7,9 +7,9 @@ use Rattle.sector.specs.declared.refusal.Refusal.{Refusal}
 use Rattle.sector.specs.declared.refusal.Refusal.TheVariants.{NotMerging}
 use Rattle.device.specs.Layers.{Layer}
 use Rattle.plain_machine.specs.Plain.{overflow_of}
-use Rattle.big_steps.specs.Attaching.{attached, refused_attach}
-use Rattle.big_steps.specs.Refusals.{is_starved}
-use Rattle.big_steps.proofs.Starved.{starved_by}
+use Rattle.whole_commands.specs.Attaching.{attached, refused_attach}
+use Rattle.whole_commands.specs.Refusals.{is_starved}
+use Rattle.whole_commands.proofs.Starved.{starved_by}
 use Rattle.store.specs.Opening.{faults_after}
 use Rattle.snapshot.specs.declared.opening.StoreDev.{StoreDev}
 use Rattle.volume.specs.Attached.{store_of, volume_in}

@@ -8,8 +8,8 @@ use Rattle.sector.specs.Bytes.{with_part, with_sectors}
 use Rattle.device.specs.Layers.{Layer, is_loud}
 use Rattle.device.specs.declared.operation.Operation.TheVariants.{Reads, Writes, Flushes}
 use Rattle.cow_header.specs.HeaderText.{header_bytes}
-use Rattle.store_bytes.specs.Places.{area_place}
-use Rattle.store_bytes.specs.NextPlace.{LacksArea}
+use Rattle.cow_format.specs.Places.{area_place}
+use Rattle.cow_format.specs.NextPlace.{LacksArea}
 use Rattle.plain_machine.specs.declared.event.Event.TheVariants.{CopyRead, CopyWrite, FlushStore, ZeroNext, WriteArea, Publish, WriteInvalid}
 use Rattle.plain_machine.specs.declared.event.Outcome.TheVariants.{Done, Fault}
 use Rattle.plain_machine.specs.declared.request.Reply.{Reply}

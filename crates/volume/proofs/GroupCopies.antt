@@ -22,8 +22,8 @@ use Rattle.snapshot_list.specs.MergeStarting.{AreNextSavedIn, IsNextSaved, next_
 use Rattle.store.specs.Grouping.{run_at, shifted}
 use Rattle.store.proofs.Groups.{get_or-run, length-run}
 use Rattle.store.specs.Operations.{IsOneOperation}
-use Rattle.store_bytes.specs.Pairs.{IsInside, pairs_of}
-use Rattle.stop_laws.specs.Firm.{AddsNow}
+use Rattle.cow_format.specs.Pairs.{IsInside, pairs_of}
+use Rattle.crash_laws.specs.Firm.{AddsNow}
 use Rattle.merge.specs.declared.group.Group.{Group}
 use Rattle.merge.specs.declared.group.Progress.{Progress}
 use Rattle.merge.specs.declared.group.Progress.TheVariants.{Open, Full}

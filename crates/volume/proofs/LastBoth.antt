@@ -14,8 +14,8 @@ use Rattle.in_flight.specs.Kinds.{kind_at, kind_of, in_flight}
 use Rattle.in_flight.specs.declared.flights.Flight.{Flight}
 use Rattle.in_flight.specs.declared.flights.Kind.TheVariants.{OriginWrite, SnapWrite}
 use Rattle.in_flight.specs.declared.flights.Route.TheVariants.{Origin, Store, Refused}
-use Rattle.stop_laws.specs.Clauses.{Given}
-use Rattle.stop_laws.proofs.Firm.{adds_written}
+use Rattle.crash_laws.specs.Clauses.{Given}
+use Rattle.crash_laws.proofs.Firm.{adds_written}
 use Rattle.volume_laws.specs.Held.{RequestHolds}
 use Rattle.volume_laws.specs.Steps.{WritesDisk, WritesPlace}
 use Rattle.volume_laws.proofs.Requests.{asked_first}

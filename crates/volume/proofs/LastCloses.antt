@@ -19,9 +19,9 @@ use Rattle.plain_machine.specs.declared.request.Request.{Request}
 use Rattle.in_flight.specs.Kinds.{kind_at, in_flight}
 use Rattle.in_flight.specs.declared.flights.Flight.{Flight}
 use Rattle.in_flight.specs.declared.flights.Kind.TheVariants.{OriginFlush}
-use Rattle.stop_laws.specs.Firm.{IsFirm}
-use Rattle.loss_laws.specs.Kept.{IsThere, SnapLasts}
-use Rattle.loss_laws.proofs.Closing.{snap_closes_all}
+use Rattle.crash_laws.specs.Firm.{IsFirm}
+use Rattle.cache_loss_laws.specs.Kept.{IsThere, SnapLasts}
+use Rattle.cache_loss_laws.proofs.Closing.{snap_closes_all}
 use Rattle.volume_laws.proofs.Requests.{asked_first}
 use Rattle.snapshot.specs.Kept.{Kept}
 use Rattle.snapshot_list.specs.Numbers.{number_of_snap}

@@ -11,34 +11,34 @@ use Rattle.sector.proofs.Numbers.{same_number, length-number_bytes}
 use Rattle.sector.proofs.Sectors.{sectors_at-with_same, byte_read}
 use Rattle.sector.specs.declared.pair.Pair.{Pair}
 use Rattle.device.specs.Layers.{Layer, is_loud}
-use Rattle.store_bytes.specs.Pairs.{pairs_of, AreWellFormed, IsInside}
-use Rattle.store_bytes.specs.Picture.{place_of, IsCopied}
-use Rattle.store_bytes.specs.Places.{area_place, chunk_at, slot, ChangesOnly}
-use Rattle.store_bytes.proofs.AreaPlaces.{area_of}
-use Rattle.store_bytes.proofs.Slots.{pairs-outside, slot-at}
-use Rattle.store_bytes.specs.Slots.{pair_in, pair_bytes}
+use Rattle.cow_format.specs.Pairs.{pairs_of, AreWellFormed, IsInside}
+use Rattle.cow_format.specs.Picture.{place_of, IsCopied}
+use Rattle.cow_format.specs.Places.{area_place, chunk_at, slot, ChangesOnly}
+use Rattle.cow_format.proofs.AreaPlaces.{area_of}
+use Rattle.cow_format.proofs.Slots.{pairs-outside, slot-at}
+use Rattle.cow_format.specs.Slots.{pair_in, pair_bytes}
 use Rattle.in_flight.specs.Flushed.{flushed_stage, flushed_copy, safe_mark}
 use Rattle.in_flight.specs.Copies.{pair_of}
 use Rattle.in_flight.specs.declared.copies.ChunkCopy.{ChunkCopy}
 use Rattle.in_flight.specs.declared.copies.Stage.{Stage}
 use Rattle.in_flight.specs.declared.copies.Stage.TheVariants.{Waiting, Read, Written, Flushed}
 use Rattle.in_flight.specs.declared.flights.Flight.{Flight}
-use Rattle.stop_laws.specs.Firm.{AddsNow, IsFirm}
-use Rattle.stop_laws.specs.Stop.{MayLeave}
-use Rattle.stop_laws.proofs.May.{slot_there}
-use Rattle.stop_laws.specs.May.{sector_of}
-use Rattle.stop_laws.specs.Clauses.{Given, Gives}
-use Rattle.loss_laws.specs.Kept.{Kept as Lost, last_slot, last_of, SnapLasts, SnapRefused}
-use Rattle.loss_laws.specs.Calm.{IsCalmSnap, StopsSnapLost}
-use Rattle.loss_laws.specs.Lost.{GivesPlace, NoneGiven}
-use Rattle.loss_laws.proofs.CalmCalls.{calm_same, calm_copy_write, calm_zero, calm_mark, calm_disk_write, calm_own_write}
-use Rattle.loss_laws.proofs.Clauses.{place_given, snap_gives}
-use Rattle.loss_laws.proofs.Committed.{commit_stops, commit_lasts, commit_fills}
-use Rattle.loss_laws.proofs.Flushed.{flush_lasts}
-use Rattle.loss_laws.proofs.Kept.{calm_stops, mark_flushed}
-use Rattle.loss_laws.proofs.Parts.{place_first}
-use Rattle.loss_laws.proofs.Places.{place_good}
-use Rattle.loss_laws.proofs.Slots.{ahead_of}
+use Rattle.crash_laws.specs.Firm.{AddsNow, IsFirm}
+use Rattle.crash_laws.specs.Stop.{MayLeave}
+use Rattle.crash_laws.proofs.May.{slot_there}
+use Rattle.crash_laws.specs.May.{sector_of}
+use Rattle.crash_laws.specs.Clauses.{Given, Gives}
+use Rattle.cache_loss_laws.specs.Kept.{Kept as Lost, last_slot, last_of, SnapLasts, SnapRefused}
+use Rattle.cache_loss_laws.specs.Calm.{IsCalmSnap, StopsSnapLost}
+use Rattle.cache_loss_laws.specs.Lost.{GivesPlace, NoneGiven}
+use Rattle.cache_loss_laws.proofs.CalmCalls.{calm_same, calm_copy_write, calm_zero, calm_mark, calm_disk_write, calm_own_write}
+use Rattle.cache_loss_laws.proofs.Clauses.{place_given, snap_gives}
+use Rattle.cache_loss_laws.proofs.Committed.{commit_stops, commit_lasts, commit_fills}
+use Rattle.cache_loss_laws.proofs.Flushed.{flush_lasts}
+use Rattle.cache_loss_laws.proofs.Kept.{calm_stops, mark_flushed}
+use Rattle.cache_loss_laws.proofs.Parts.{place_first}
+use Rattle.cache_loss_laws.proofs.Places.{place_good}
+use Rattle.cache_loss_laws.proofs.Slots.{ahead_of}
 use Rattle.volume_laws.specs.Held.{LiveHolds, is_stored}
 use Rattle.volume_laws.specs.Steps.{ZeroesArea, Commits, mark_of}
 use Rattle.volume_laws.proofs.Heard.{both_loud}

@@ -8,8 +8,8 @@ use Rattle.sector.specs.Bytes.{sector_at, with_part, with_sectors}
 use Rattle.sector.specs.declared.pair.Pair.{Pair}
 use Rattle.sector.proofs.Sectors.{sectors_apart}
 use Rattle.device.specs.Layers.{Layer, is_loud}
-use Rattle.store_bytes.specs.Picture.{place_of}
-use Rattle.store_bytes.specs.Places.{area_place, ChangesOnly}
+use Rattle.cow_format.specs.Picture.{place_of}
+use Rattle.cow_format.specs.Places.{area_place, ChangesOnly}
 use Rattle.in_flight.specs.Kinds.{kind_of}
 use Rattle.in_flight.specs.Flushed.{flushed_copy, safe_mark}
 use Rattle.in_flight.specs.declared.copies.ChunkCopy.{ChunkCopy}
@@ -18,9 +18,9 @@ use Rattle.in_flight.specs.declared.copies.Stage.TheVariants.{Flushed}
 use Rattle.in_flight.specs.declared.flights.Flight.{Flight}
 use Rattle.in_flight.specs.declared.flights.Kind.TheVariants.{OriginWrite, SnapWrite}
 use Rattle.in_flight.specs.declared.flights.Route.TheVariants.{Origin, Store}
-use Rattle.stop_laws.specs.Clauses.{Given}
-use Rattle.stop_laws.specs.Firm.{IsFirm}
-use Rattle.loss_laws.proofs.Premises.{published_sure}
+use Rattle.crash_laws.specs.Clauses.{Given}
+use Rattle.crash_laws.specs.Firm.{IsFirm}
+use Rattle.cache_loss_laws.proofs.Premises.{published_sure}
 use Rattle.volume_laws.specs.Held.{RouteHolds, UntriedHolds, IsLinked}
 use Rattle.volume_laws.specs.Published.{IsPublished, IsSavedOver}
 use Rattle.volume_laws.specs.Steps.{WritesDisk, ZeroesArea, Commits, mark_of}

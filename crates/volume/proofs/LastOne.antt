@@ -6,22 +6,22 @@ use Rattle.std.proofs.Math.ListN.{get_or-append}
 use Rattle.sector.specs.Bytes.{sector_at}
 use Rattle.sector.specs.declared.pair.Pair.{Pair}
 use Rattle.device.specs.Layers.{Layer, is_loud}
-use Rattle.store_bytes.specs.Pairs.{pairs_of, AreWellFormed, IsApart, IsInside}
-use Rattle.store_bytes.specs.Picture.{place_of}
-use Rattle.store_bytes.specs.Places.{area_place}
-use Rattle.store_bytes.proofs.Views.{place_none}
+use Rattle.cow_format.specs.Pairs.{pairs_of, AreWellFormed, IsApart, IsInside}
+use Rattle.cow_format.specs.Picture.{place_of}
+use Rattle.cow_format.specs.Places.{area_place}
+use Rattle.cow_format.proofs.Views.{place_none}
 use Rattle.in_flight.specs.Copies.{pair_of}
 use Rattle.in_flight.specs.declared.copies.ChunkCopy.{ChunkCopy}
 use Rattle.in_flight.specs.declared.flights.Flight.{Flight}
-use Rattle.stop_laws.specs.Stop.{MayLeave}
-use Rattle.stop_laws.specs.Firm.{AddsNow}
-use Rattle.stop_laws.specs.Clauses.{Given, Gives, StopsSnap}
-use Rattle.loss_laws.specs.Kept.{Kept as Lost, SnapLasts, SnapRefused}
-use Rattle.loss_laws.specs.Calm.{IsCalmSnap, StopsSnapLost}
-use Rattle.loss_laws.proofs.Kept.{calm_stops, calm_lasts, refused_lasts}
-use Rattle.loss_laws.proofs.CalmCalls.{calm_same}
-use Rattle.loss_laws.proofs.Clauses.{snap_clause}
-use Rattle.loss_laws.proofs.Places.{place_all}
+use Rattle.crash_laws.specs.Stop.{MayLeave}
+use Rattle.crash_laws.specs.Firm.{AddsNow}
+use Rattle.crash_laws.specs.Clauses.{Given, Gives, StopsSnap}
+use Rattle.cache_loss_laws.specs.Kept.{Kept as Lost, SnapLasts, SnapRefused}
+use Rattle.cache_loss_laws.specs.Calm.{IsCalmSnap, StopsSnapLost}
+use Rattle.cache_loss_laws.proofs.Kept.{calm_stops, calm_lasts, refused_lasts}
+use Rattle.cache_loss_laws.proofs.CalmCalls.{calm_same}
+use Rattle.cache_loss_laws.proofs.Clauses.{snap_clause}
+use Rattle.cache_loss_laws.proofs.Places.{place_all}
 use Rattle.volume_laws.specs.Held.{SnapHolds, LiveHolds}
 use Rattle.snapshot.specs.Kept.{Kept, books_of as snap_books}
 use Rattle.volume.specs.SnapLasting.{IsReady, lost_of, IsThereOn, SnapLastsOn, SnapLasting}

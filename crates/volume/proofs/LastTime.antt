@@ -4,7 +4,7 @@ use Rattle.std.proofs.lemmas.Bool.{cases_eq}
 use Rattle.std.proofs.lemmas.List.{get_or_default, get_or-set_same, get_or-set_other}
 use Rattle.sector.specs.Bytes.{sector_at}
 use Rattle.device.specs.Layers.{Layer}
-use Rattle.stop_laws.specs.Firm.{AddsNow}
+use Rattle.crash_laws.specs.Firm.{AddsNow}
 use Rattle.snapshot.specs.Kept.{Kept}
 use Rattle.merge.specs.Lists.{copied_of}
 use Rattle.merge.specs.Merging.{Merging, flushed_of}

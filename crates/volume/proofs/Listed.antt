@@ -6,10 +6,10 @@ use Rattle.std.proofs.lemmas.List.{length-map, get_or-map}
 use Rattle.sector.specs.Bytes.{sectors_at}
 use Rattle.sector.proofs.Sectors.{byte_read}
 use Rattle.sector.specs.declared.pair.Pair.{Pair}
-use Rattle.store_bytes.specs.Pairs.{pairs_of}
-use Rattle.store_bytes.specs.Picture.{place_of, picture, picture_at}
-use Rattle.store_bytes.proofs.Pictures.{picture-plain, picture-written}
-use Rattle.big_steps.proofs.PictureSectors.{at_place, same_sectors}
+use Rattle.cow_format.specs.Pairs.{pairs_of}
+use Rattle.cow_format.specs.Picture.{place_of, picture, picture_at}
+use Rattle.cow_format.proofs.Pictures.{picture-plain, picture-written}
+use Rattle.whole_commands.proofs.PictureSectors.{at_place, same_sectors}
 use Rattle.volume.specs.Peeking.{picture_by}
 
 pub length-listed : (chunk : ℕ) (origin store : List ℕ) (ps : List Pair) → length (picture_by chunk origin store ps) ≡ length origin

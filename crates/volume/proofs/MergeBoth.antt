@@ -6,11 +6,11 @@ use Rattle.std.proofs.lemmas.Bool.{false≢true}
 use Rattle.sector.specs.Bytes.{sector_at, with_part}
 use Rattle.sector.specs.declared.pair.Pair.{Pair}
 use Rattle.device.specs.Layers.{Layer, is_loud}
-use Rattle.store_bytes.specs.Picture.{place_of}
+use Rattle.cow_format.specs.Picture.{place_of}
 use Rattle.in_flight.specs.Copies.{count_of}
 use Rattle.in_flight.specs.declared.flights.Flight.{Flight}
-use Rattle.stop_laws.specs.Firm.{IsFirm}
-use Rattle.stop_laws.specs.Clauses.{Given}
+use Rattle.crash_laws.specs.Firm.{IsFirm}
+use Rattle.crash_laws.specs.Clauses.{Given}
 use Rattle.volume_laws.specs.Books.{SnapBooks}
 use Rattle.volume_laws.specs.MergeDue.{can_write, is_writable}
 use Rattle.volume_laws.specs.MergeSteps.{CommitsGroup, FlushesBack}

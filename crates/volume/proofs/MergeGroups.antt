@@ -5,7 +5,7 @@ use Rattle.std.specs.List.{All}
 use Rattle.std.proofs.lemmas.List.{length-map, get_or-map, get_or_default, get_or_append_left, get_or-append-add}
 use Rattle.sector.specs.declared.pair.Pair.{Pair}
 use Rattle.device.specs.Layers.{Layer, is_loud}
-use Rattle.store_bytes.specs.Pairs.{IsInside}
+use Rattle.cow_format.specs.Pairs.{IsInside}
 use Rattle.plain_machine.specs.declared.event.Event.TheVariants.{MergeGroup}
 use Rattle.plain_machine.specs.declared.event.Outcome.TheVariants.{Done}
 use Rattle.in_flight.specs.Due.{number_of_copy, number_of_mark}

@@ -3,7 +3,7 @@ use Rattle.std.proofs.Common.{◌≡◌, ℕ, ◌+◌, ◌*◌, ◌%◌, true, L
 use Rattle.std.specs.Prelude.{Option, Some, None}
 use Rattle.std.specs.List.{position, remove}
 use Rattle.sector.specs.Bytes.{sectors_at, with_sectors}
-use Rattle.store_bytes.specs.Places.{ChangesOnly}
+use Rattle.cow_format.specs.Places.{ChangesOnly}
 use Rattle.plain_machine.specs.declared.request.Op.TheVariants.{Write}
 use Rattle.plain_machine.specs.declared.request.Reply.TheVariants.{Data, Written as IsWritten}
 use Rattle.in_flight.specs.Kinds.{kind_of}

@@ -7,21 +7,21 @@ use Rattle.std.proofs.lemmas.List.{length-append}
 use Rattle.sector.specs.Bytes.{sector_at, with_sectors}
 use Rattle.sector.specs.declared.pair.Pair.{Pair}
 use Rattle.device.specs.Layers.{Layer, is_loud}
-use Rattle.store_bytes.specs.Places.{area_place, slot, ChangesOnly}
-use Rattle.store_bytes.specs.Pairs.{pairs_of, IsInside}
-use Rattle.store_bytes.specs.Picture.{place_of, IsCopied}
+use Rattle.cow_format.specs.Places.{area_place, slot, ChangesOnly}
+use Rattle.cow_format.specs.Pairs.{pairs_of, IsInside}
+use Rattle.cow_format.specs.Picture.{place_of, IsCopied}
 use Rattle.in_flight.specs.declared.flights.Flight.{Flight}
-use Rattle.stop_laws.specs.Stop.{MayLeave}
-use Rattle.stop_laws.specs.Firm.{AddsNow, IsFirm}
-use Rattle.stop_laws.specs.Clauses.{Given, Gives, StopsMerge}
-use Rattle.stop_laws.specs.May.{sector_of}
-use Rattle.loss_laws.specs.Lasting.{ClearsSlots}
-use Rattle.loss_laws.specs.Lost.{NoneGiven, GivesPlace}
-use Rattle.loss_laws.specs.Merging.{Merging as Lost, IsMergeThere, MergeLasts, StopsMergeLost, KeepsBack}
-use Rattle.loss_laws.proofs.Clauses.{merge_gives}
-use Rattle.loss_laws.proofs.MergeKept.{disk_stops, disk_lasts, origin_flush_lasts, place_stops, place_lasts, clear_stops, clear_lasts, finish_opens}
-use Rattle.loss_laws.proofs.Premises.{disk_clause}
-use Rattle.loss_laws.proofs.StaysOut.{stays_out, short_lists, placed_slots, cleared_slots}
+use Rattle.crash_laws.specs.Stop.{MayLeave}
+use Rattle.crash_laws.specs.Firm.{AddsNow, IsFirm}
+use Rattle.crash_laws.specs.Clauses.{Given, Gives, StopsMerge}
+use Rattle.crash_laws.specs.May.{sector_of}
+use Rattle.cache_loss_laws.specs.Lasting.{ClearsSlots}
+use Rattle.cache_loss_laws.specs.Lost.{NoneGiven, GivesPlace}
+use Rattle.cache_loss_laws.specs.Merging.{Merging as Lost, IsMergeThere, MergeLasts, StopsMergeLost, KeepsBack}
+use Rattle.cache_loss_laws.proofs.Clauses.{merge_gives}
+use Rattle.cache_loss_laws.proofs.MergeKept.{disk_stops, disk_lasts, origin_flush_lasts, place_stops, place_lasts, clear_stops, clear_lasts, finish_opens}
+use Rattle.cache_loss_laws.proofs.Premises.{disk_clause}
+use Rattle.cache_loss_laws.proofs.StaysOut.{stays_out, short_lists, placed_slots, cleared_slots}
 use Rattle.volume_laws.specs.Merging.{MergeHolds}
 use Rattle.volume_laws.specs.Whole.{OriginHolds}
 use Rattle.merge.specs.Due.{is_finished_of, has_group_of}

@@ -8,13 +8,13 @@ use Rattle.std.proofs.lemmas.List.Elements.{All-map}
 use Rattle.sector.specs.Bytes.{sector_at}
 use Rattle.sector.specs.declared.pair.Pair.{Pair}
 use Rattle.device.specs.Layers.{Layer, is_loud}
-use Rattle.store_bytes.specs.Pairs.{AreWellFormed}
-use Rattle.store_bytes.specs.Places.{area_place, slot}
+use Rattle.cow_format.specs.Pairs.{AreWellFormed}
+use Rattle.cow_format.specs.Places.{area_place, slot}
 use Rattle.in_flight.specs.declared.flights.Flight.{Flight}
-use Rattle.stop_laws.specs.Firm.{IsFirm}
-use Rattle.loss_laws.proofs.MergeKept.{begin_lasts}
-use Rattle.loss_laws.proofs.Attached.{attach_lasts}
-use Rattle.loss_laws.proofs.Slots.{inside_of}
+use Rattle.crash_laws.specs.Firm.{IsFirm}
+use Rattle.cache_loss_laws.proofs.MergeKept.{begin_lasts}
+use Rattle.cache_loss_laws.proofs.Attached.{attach_lasts}
+use Rattle.cache_loss_laws.proofs.Slots.{inside_of}
 use Rattle.store.specs.Headed.{marked_as}
 use Rattle.snapshot.specs.Kept.{Kept}
 use Rattle.snapshot.specs.InStep.{IsInStep}

@@ -16,7 +16,7 @@ use Rattle.in_flight.specs.declared.copies.Stage.{Stage}
 use Rattle.in_flight.specs.declared.copies.Stage.TheVariants.{Waiting, Read, Written}
 use Rattle.in_flight.specs.declared.copies.ChunkCopy.{ChunkCopy}
 use Rattle.store.specs.Operations.{IsOneOperation}
-use Rattle.big_steps.specs.Devices.{answers, met}
+use Rattle.whole_commands.specs.Devices.{answers, met}
 use Rattle.event_machine.specs.Held.{Copying, SnapHeld, Moving, with_store}
 use Rattle.event_machine.specs.Stepping.{for_some, first_that, with_first, put, spoil, store_write, is_copy, on_copy, read_copy, write_copy, stepped}
 use Rattle.event_machine.specs.Seen.{copying_of}

@@ -5,7 +5,7 @@ use Rattle.std.proofs.lemmas.Bool.{cases_eq, false≢true}
 use Rattle.std.proofs.lemmas.List.{length-append, length-map, length-take-le}
 use Rattle.sector.specs.declared.pair.Pair.{Pair}
 use Rattle.device.specs.Layers.{Layer}
-use Rattle.store_bytes.specs.NextPlace.{stepped}
+use Rattle.cow_format.specs.NextPlace.{stepped}
 use Rattle.in_flight.specs.Copies.{pair_of}
 use Rattle.in_flight.proofs.Batches.{batch_few}
 use Rattle.in_flight.specs.declared.copies.ChunkCopy.{ChunkCopy}

@@ -15,7 +15,7 @@ use Rattle.store.specs.Grouping.{IsGroup, run_at}
 use Rattle.volume_laws.specs.Held.{SnapHolds}
 use Rattle.volume_laws.specs.MergeDue.{can_group, last_of}
 use Rattle.volume_laws.specs.MergeSteps.{FormsGroup}
-use Rattle.big_steps.specs.Merges.{last_run}
+use Rattle.whole_commands.specs.Merges.{last_run}
 use Rattle.event_machine.specs.Held.{SnapHeld, Going, MergeHeld, Moving}
 use Rattle.event_machine.specs.MergeDue.{in_area}
 use Rattle.event_machine.specs.Seen.{going_of}

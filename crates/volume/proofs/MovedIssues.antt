@@ -19,7 +19,7 @@ use Rattle.in_flight.specs.declared.flights.Flight.{Flight}
 use Rattle.in_flight.specs.declared.flights.Route.{Route}
 use Rattle.in_flight.specs.declared.flights.Route.TheVariants.{Origin, Store, Whole, Refused}
 use Rattle.store.specs.Operations.{IsOneOperation}
-use Rattle.big_steps.specs.Devices.{Device, answers, flush_reply, met, written_by, read_reply}
+use Rattle.whole_commands.specs.Devices.{Device, answers, flush_reply, met, written_by, read_reply}
 use Rattle.event_machine.specs.Held.{Copying, SnapHeld, Going, MergeHeld, Moving, flushed_held, on_device, with_merge, with_store}
 use Rattle.event_machine.specs.Due.{is_issuable}
 use Rattle.event_machine.specs.MergeSeen.{held_in, merge_held_of}

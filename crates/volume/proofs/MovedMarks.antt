@@ -24,8 +24,8 @@ use Rattle.store.specs.Operations.{IsOneOperation}
 use Rattle.volume_laws.specs.Again.{again_of, new_route, placed_of}
 use Rattle.volume_laws.specs.Books.{SnapBooks}
 use Rattle.volume_laws.specs.Published.{is_clear as is_clear_in, is_clear_over as is_clear_over_in, is_saved as is_saved_in, is_saved_over as is_saved_over_in}
-use Rattle.big_steps.specs.Saves.{marked}
-use Rattle.big_steps.specs.Devices.{Device, answers, met, written_by}
+use Rattle.whole_commands.specs.Saves.{marked}
+use Rattle.whole_commands.specs.Devices.{Device, answers, met, written_by}
 use Rattle.event_machine.specs.Held.{SnapHeld, Going, MergeHeld, Moving, Copying, is_untried, flushed_copying, flushed_held, spoiled, with_store}
 use Rattle.event_machine.specs.Due.{can_flush_store, can_mark, is_publishable}
 use Rattle.event_machine.specs.Again.{is_saved, is_saved_over, is_clear, is_clear_over, is_grouped, merged_place, write_route, again, placed, rerouted}

@@ -10,7 +10,7 @@ use Rattle.device.specs.declared.operation.Operation.TheVariants.{Reads, Writes,
 use Rattle.plain_machine.specs.declared.event.Event.{Event}
 use Rattle.plain_machine.specs.declared.event.Event.TheVariants.{MergeAreaRead, MergeCommit, MergeFlush, MergeRead, MergeRelease}
 use Rattle.plain_machine.specs.declared.request.Reply.{Reply}
-use Rattle.store_bytes.specs.Places.{area_place}
+use Rattle.cow_format.specs.Places.{area_place}
 use Rattle.in_flight.specs.Copies.{count_of}
 use Rattle.in_flight.specs.declared.flights.Flight.{Flight}
 use Rattle.store.specs.Operations.{IsOneOperation}
@@ -22,8 +22,8 @@ use Rattle.volume_laws.specs.MergeSteps.{ReadsBack, FlushesBack, CommitsGroup, R
 use Rattle.volume_laws.specs.MergeWaits.{IsStaged}
 use Rattle.volume_laws.specs.Published.{is_clear as is_clear_in}
 use Rattle.volume_laws.proofs.MergeTests.{commit_test}
-use Rattle.big_steps.specs.Devices.{Device, answers, met, written_by, sectors_of}
-use Rattle.big_steps.specs.Merges.{without_slots}
+use Rattle.whole_commands.specs.Devices.{Device, answers, met, written_by, sectors_of}
+use Rattle.whole_commands.specs.Merges.{without_slots}
 use Rattle.event_machine.specs.Held.{Going, MergeHeld, Moving, on_device}
 use Rattle.event_machine.specs.Seen.{going_of}
 use Rattle.event_machine.specs.Again.{rerouted}

@@ -7,7 +7,7 @@ use Rattle.plain_machine.specs.declared.request.Reply.{Reply}
 use Rattle.in_flight.specs.Routes.{refused_of}
 use Rattle.in_flight.specs.declared.flights.Flight.{Flight}
 use Rattle.store.specs.Operations.{IsOneOperation}
-use Rattle.big_steps.specs.Devices.{Device, answers, met, written_by}
+use Rattle.whole_commands.specs.Devices.{Device, answers, met, written_by}
 use Rattle.event_machine.specs.Held.{SnapHeld, Going, MergeHeld, Moving, spoiled, with_store}
 use Rattle.event_machine.specs.Again.{refused}
 use Rattle.event_machine.specs.Stepping.{for_some, with_first, put, spoil, store_write, on_snap}

@@ -10,9 +10,9 @@ use Rattle.sector.specs.declared.pair.Pair.{Pair}
 use Rattle.device.specs.Layers.{Layer}
 use Rattle.device.specs.declared.operation.Operation.{Operation}
 use Rattle.device.specs.declared.operation.Operation.TheVariants.{Writes}
-use Rattle.store_bytes.specs.Places.{area_place}
-use Rattle.store_bytes.specs.NextPlace.{LacksArea}
-use Rattle.store_bytes.specs.Slots.{pair_bytes}
+use Rattle.cow_format.specs.Places.{area_place}
+use Rattle.cow_format.specs.NextPlace.{LacksArea}
+use Rattle.cow_format.specs.Slots.{pair_bytes}
 use Rattle.plain_machine.specs.declared.event.Event.TheVariants.{ZeroNext, WriteArea}
 use Rattle.plain_machine.specs.declared.request.Reply.{Reply}
 use Rattle.in_flight.specs.Copies.{pair_of}
@@ -24,8 +24,8 @@ use Rattle.store.specs.Slots.{pairs_bytes, slot_start}
 use Rattle.store.specs.Stored.{after_commit}
 use Rattle.store.specs.declared.state.State.{State}
 use Rattle.volume_laws.specs.Steps.{mark_of}
-use Rattle.big_steps.specs.Saves.{zeroed}
-use Rattle.big_steps.specs.Saving.{lacks_area}
+use Rattle.whole_commands.specs.Saves.{zeroed}
+use Rattle.whole_commands.specs.Saving.{lacks_area}
 use Rattle.event_machine.specs.Held.{Copying, SnapHeld, Moving, with_store}
 use Rattle.event_machine.specs.Due.{batch_of as batch_in, can_commit, can_zero}
 use Rattle.event_machine.specs.Stepping.{spoil, store_write, zero_next, all_paired, commit, stepped, pair_of as pair_of_copying, mark_of as mark_of_copying}

@@ -16,7 +16,7 @@ use Rattle.volume_laws.specs.Again.{again_of}
 use Rattle.volume_laws.specs.MergeDue.{can_write, is_writable, last_of}
 use Rattle.volume_laws.specs.MergeSteps.{WritesBack, FailsMerge}
 use Rattle.volume_laws.specs.Published.{is_clear as is_clear_in}
-use Rattle.big_steps.specs.Devices.{Device, answers, written_by, sectors_of}
+use Rattle.whole_commands.specs.Devices.{Device, answers, written_by, sectors_of}
 use Rattle.event_machine.specs.Held.{MergeHeld, Moving}
 use Rattle.event_machine.specs.MergeDue.{is_writable as is_writable_held}
 use Rattle.event_machine.specs.MergeSeen.{MergeSeen, merge_held_of}

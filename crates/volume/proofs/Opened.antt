@@ -4,11 +4,11 @@ use Rattle.std.proofs.Common.{◌≡◌, ◌⊎◌, inl, inr, ℕ, suc, ◌*◌,
 use Rattle.std.proofs.lemmas.List.{get_or-map, get_or_default, get_or_append_left, get_or_push, length-map}
 use Rattle.sector.specs.Bytes.{sector_at, with_sectors}
 use Rattle.sector.proofs.Sectors.{sectors_at-with_same}
-use Rattle.store_bytes.specs.Picture.{picture}
-use Rattle.stop_laws.specs.Stop.{MayLeave, Within}
-use Rattle.stop_laws.specs.Again.{IsOpen}
-use Rattle.stop_laws.specs.Clauses.{Given, Gives, StopsDisk, StopsMerge}
-use Rattle.stop_laws.proofs.Opens.{left_with}
+use Rattle.cow_format.specs.Picture.{picture}
+use Rattle.crash_laws.specs.Stop.{MayLeave, Within}
+use Rattle.crash_laws.specs.Again.{IsOpen}
+use Rattle.crash_laws.specs.Clauses.{Given, Gives, StopsDisk, StopsMerge}
+use Rattle.crash_laws.proofs.Opens.{left_with}
 use Rattle.snapshot.specs.Kept.{Kept}
 use Rattle.snapshot_list.specs.Numbers.{number_of_snap}
 use Rattle.merge.specs.Merging.{Merging}

@@ -18,7 +18,7 @@ use Rattle.plain_machine.specs.declared.request.Request.{Request}
 use Rattle.layers.specs.declared.message.Answer.{Answer}
 use Rattle.layers.specs.declared.message.Message.{Message}
 use Rattle.in_flight.specs.Kinds.{in_flight}
-use Rattle.stop_laws.specs.Clauses.{Gives}
+use Rattle.crash_laws.specs.Clauses.{Gives}
 use Rattle.snapshot.specs.Kept.{Kept}
 use Rattle.snapshot_list.specs.Numbers.{number_of_snap}
 use Rattle.merge.specs.Merging.{Merging}

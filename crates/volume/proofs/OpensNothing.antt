@@ -2,7 +2,7 @@
 use Rattle.std.proofs.Common.{◌≡◌, inl, inr, ℕ, ◌*◌, ◌<◌, List, Option, None, Some, length, get_or, sym, ◌∙◌, ap, subst}
 use Rattle.sector.specs.Bytes.{sector_at}
 use Rattle.device.specs.Layers.{Layer}
-use Rattle.stop_laws.specs.Firm.{AddsNow}
+use Rattle.crash_laws.specs.Firm.{AddsNow}
 use Rattle.merge.specs.Merging.{Merging}
 use Rattle.volume.specs.Adding.{AddsMerge, LeavesNoMore, MergeLeavesNoMore, OpensNothing}
 use Rattle.volume.specs.Volumed.{Volumed}

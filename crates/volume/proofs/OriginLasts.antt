@@ -11,8 +11,8 @@ use Rattle.sector.specs.Bytes.{sector_at, with_sectors, with_part}
 use Rattle.sector.proofs.Sectors.{length-with_sectors, byte_outside}
 use Rattle.sector.specs.declared.pair.Pair.{Pair}
 use Rattle.device.specs.Layers.{Layer, is_loud}
-use Rattle.store_bytes.specs.Places.{area_place}
-use Rattle.store_bytes.specs.Picture.{place_of}
+use Rattle.cow_format.specs.Places.{area_place}
+use Rattle.cow_format.specs.Picture.{place_of}
 use Rattle.in_flight.specs.Copies.{count_of}
 use Rattle.in_flight.specs.Kinds.{kind_at, kind_of}
 use Rattle.in_flight.specs.declared.flights.Flight.{Flight}
@@ -21,13 +21,13 @@ use Rattle.in_flight.specs.declared.flights.Route.TheVariants.{Origin, Store, Re
 use Rattle.plain_machine.specs.declared.request.Dev.{Dev}
 use Rattle.plain_machine.specs.declared.request.Dev.TheVariants.{Origin as AtOrigin, Snap}
 use Rattle.plain_machine.specs.declared.request.Op.TheVariants.{Write}
-use Rattle.stop_laws.specs.Firm.{IsFirm}
-use Rattle.stop_laws.specs.Clauses.{Given, Gives}
-use Rattle.stop_laws.proofs.Sectors.{sectors_same}
-use Rattle.loss_laws.proofs.Clauses.{place_given}
-use Rattle.loss_laws.proofs.Places.{place_behind}
-use Rattle.loss_laws.proofs.Premises.{disk_given}
-use Rattle.loss_laws.proofs.Slots.{cleared_only, cleared_sectors, cleared_zero, cleared_others}
+use Rattle.crash_laws.specs.Firm.{IsFirm}
+use Rattle.crash_laws.specs.Clauses.{Given, Gives}
+use Rattle.crash_laws.proofs.Sectors.{sectors_same}
+use Rattle.cache_loss_laws.proofs.Clauses.{place_given}
+use Rattle.cache_loss_laws.proofs.Places.{place_behind}
+use Rattle.cache_loss_laws.proofs.Premises.{disk_given}
+use Rattle.cache_loss_laws.proofs.Slots.{cleared_only, cleared_sectors, cleared_zero, cleared_others}
 use Rattle.volume_laws.specs.Books.{Books}
 use Rattle.volume_laws.specs.Held.{SnapHolds, RequestHolds}
 use Rattle.volume_laws.specs.Merging.{MergeRouteHolds}

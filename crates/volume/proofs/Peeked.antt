@@ -3,12 +3,12 @@ use Rattle.std.proofs.Common.{◌≡◌, ℕ, zero, suc, ◌+◌, ◌*◌, ◌%�
 use Rattle.std.specs.Prelude.{◌==◌, if◌then◌else◌}
 use Rattle.std.proofs.lemmas.List.{get_or-map, length-map}
 use Rattle.device.specs.Layers.{Layer, is_loud}
-use Rattle.store_bytes.specs.Pairs.{pairs_of, IsInside}
-use Rattle.store_bytes.specs.Picture.{picture, place_of}
+use Rattle.cow_format.specs.Pairs.{pairs_of, IsInside}
+use Rattle.cow_format.specs.Picture.{picture, place_of}
 use Rattle.plain_machine.specs.declared.request.Dev.{Dev}
 use Rattle.plain_machine.specs.declared.request.Dev.TheVariants.{Snap}
 use Rattle.plain_machine.specs.Plain.{Entry, Live, Invalid, saved_under}
-use Rattle.big_steps.proofs.PictureSectors.{all_front, place_inside}
+use Rattle.whole_commands.proofs.PictureSectors.{all_front, place_inside}
 use Rattle.snapshot.specs.Kept.{Kept, books_of as snap_books}
 use Rattle.volume_laws.specs.Held.{LiveHolds, SnapHolds}
 use Rattle.volume.specs.Shown.{shown_entry, shown_origin}

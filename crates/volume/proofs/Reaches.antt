@@ -4,14 +4,14 @@ use Rattle.device.specs.Layers.{Layer}
 use Rattle.plain_machine.specs.declared.event.Event.{Event}
 use Rattle.plain_machine.specs.declared.event.Outcome.{Outcome}
 use Rattle.plain_machine.specs.declared.request.Reply.{Reply}
-use Rattle.big_steps.specs.Merges.{Merged, Merging}
+use Rattle.whole_commands.specs.Merges.{Merged, Merging}
 use Rattle.event_machine.specs.Held.{Moving}
 use Rattle.event_machine.specs.Due.{due}
 use Rattle.event_machine.specs.MergeDue.{due_all}
 use Rattle.event_machine.specs.MergeRest.{merged_of, IsBetween}
 use Rattle.event_machine.specs.MergeSettles.{SettlesToMerged, SettlesToReplied}
 use Rattle.event_machine.specs.MergeStepping.{stepped_all}
-use Rattle.big_steps.specs.Pieces.{Answered}
+use Rattle.whole_commands.specs.Pieces.{Answered}
 use Rattle.event_machine.specs.Seen.{replied_by}
 use Rattle.event_machine.specs.Stepping.{for_some, stepped}
 use Rattle.event_machine.specs.Settles.{settle_by, SettlesTo}
@@ -19,7 +19,7 @@ use Rattle.volume.specs.Volumed.{Volumed, is_loud_in_all}
 use Rattle.volume.specs.Moved.{moving_of}
 use Rattle.volume.specs.Exact.{IsExact}
 use Rattle.volume.specs.Reaching.{ReachesBy, Reaches, ReachesAll, IsRunAll, IsMergedTo}
-use Rattle.big_steps.specs.Snaps.{Volume}
+use Rattle.whole_commands.specs.Snaps.{Volume}
 
 -- by events that are chosen in some way
 module _ (choose : Moving → Option Event) (step : Event → Moving → Moving) where

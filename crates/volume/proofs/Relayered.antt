@@ -11,7 +11,7 @@ use Rattle.layers.specs.Ticks.{layers_ticked}
 use Rattle.layers.specs.Loudness.{loud_ticked}
 use Rattle.event_machine.specs.Held.{SnapHeld, MergeHeld, Moving, on_device}
 use Rattle.event_machine.specs.MergeSeen.{held_in, merge_held_of}
-use Rattle.big_steps.specs.Moments.{relayered}
+use Rattle.whole_commands.specs.Moments.{relayered}
 use Rattle.plain_machine.specs.declared.request.Reply.{Reply}
 use Rattle.volume_laws.specs.Books.{Books, SnapBooks, MergeBooks}
 use Rattle.volume_laws.specs.Due.{DueSnap}

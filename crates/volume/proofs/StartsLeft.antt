@@ -3,8 +3,8 @@ use Rattle.std.proofs.Common.{◌≡◌, inl, inr, ℕ, ◌+◌, ◌*◌, ◌<�
 use Rattle.std.specs.Prelude.{◌&&◌, ◌-◌, not}
 use Rattle.std.proofs.lemmas.Bool.{cases_Bool, true≢false, ltb-false}
 use Rattle.device.specs.Layers.{Layer}
-use Rattle.store_bytes.specs.NextPlace.{stepped}
-use Rattle.store_bytes.specs.Places.{is_area_place}
+use Rattle.cow_format.specs.NextPlace.{stepped}
+use Rattle.cow_format.specs.Places.{is_area_place}
 use Rattle.in_flight.specs.declared.copies.ChunkCopy.{ChunkCopy}
 use Rattle.snapshot.specs.Kept.{Kept}
 use Rattle.snapshot.specs.Calls.{StartsAt}

@@ -6,7 +6,7 @@ use Rattle.std.proofs.lemmas.Bool.{cases_Bool, false≢true, eqb-true}
 use Rattle.std.proofs.lemmas.List.{map-append}
 use Rattle.sector.specs.Bytes.{next_count}
 use Rattle.device.specs.Layers.{Layer, is_loud}
-use Rattle.store_bytes.specs.NextPlace.{LacksArea}
+use Rattle.cow_format.specs.NextPlace.{LacksArea}
 use Rattle.plain_machine.specs.declared.event.Event.TheVariants.{FlushStore, ZeroNext, WriteArea}
 use Rattle.plain_machine.specs.declared.event.Outcome.TheVariants.{Done, Fault}
 use Rattle.in_flight.specs.Due.{number_of_copy, number_of_mark, front_ready, front_unflushed}

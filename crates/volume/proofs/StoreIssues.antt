@@ -10,7 +10,7 @@ use Rattle.std.proofs.lemmas.List.Quantifiers.{position-Some}
 use Rattle.std.proofs.Math.Seq.{map-set_same}
 use Rattle.sector.specs.Bytes.{sectors_at, next_count}
 use Rattle.device.specs.Layers.{Layer, is_loud}
-use Rattle.store_bytes.specs.Picture.{place_of}
+use Rattle.cow_format.specs.Picture.{place_of}
 use Rattle.plain_machine.specs.declared.event.Event.TheVariants.{Issue}
 use Rattle.plain_machine.specs.declared.event.Outcome.TheVariants.{Reply as Replied}
 use Rattle.plain_machine.specs.declared.request.Dev.{Dev}

@@ -5,7 +5,7 @@ use Rattle.std.specs.List.{All, list_any}
 use Rattle.std.proofs.lemmas.Bool.{eqb-true, eq-eqb, false≢true}
 use Rattle.std.proofs.lemmas.List.{get_or_default}
 use Rattle.device.specs.Layers.{Layer}
-use Rattle.store_bytes.specs.Picture.{place_of}
+use Rattle.cow_format.specs.Picture.{place_of}
 use Rattle.sector.specs.declared.pair.Pair.{Pair}
 use Rattle.plain_machine.specs.declared.request.Request.{Request}
 use Rattle.plain_machine.specs.Plain.{did_overflow}

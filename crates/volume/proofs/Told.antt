@@ -18,11 +18,11 @@ use Rattle.sector.specs.declared.refusal.Refusal.TheVariants.{NoSuchDevice}
 use Rattle.event_machine.specs.Held.{SnapHeld, MergeHeld, Moving, on_device}
 use Rattle.event_machine.specs.MergeRest.{merge_in, IsMergeResting, IsBetween}
 use Rattle.event_machine.specs.MergeSeen.{held_in, merge_held_of}
-use Rattle.big_steps.specs.Moments.{snap_relayered}
+use Rattle.whole_commands.specs.Moments.{snap_relayered}
 use Rattle.event_machine.specs.Requests.{volume_of}
 use Rattle.event_machine.specs.Rest.{IsResting, IsAtRest}
-use Rattle.big_steps.specs.Snaps.{Snap as SettledSnap, Volume}
-use Rattle.big_steps.proofs.Each.{Each, each_from, all_from}
+use Rattle.whole_commands.specs.Snaps.{Snap as SettledSnap, Volume}
+use Rattle.whole_commands.proofs.Each.{Each, each_from, all_from}
 use Rattle.volume_laws.specs.Whole.{plain_of as plain_books}
 use Rattle.store.specs.Layering.{IsRelayered}
 use Rattle.snapshot.specs.Kept.{Kept}

@@ -5,10 +5,10 @@ use Rattle.std.specs.List.{All, list_all}
 use Rattle.std.proofs.lemmas.List.Elements.{All-cons, All-head, All-tail}
 use Rattle.chunk.specs.Sizes.{is_chunk}
 use Rattle.device.specs.Layers.{Layer, is_loud}
-use Rattle.store_bytes.specs.Pairs.{pairs_of, AreWellFormed}
+use Rattle.cow_format.specs.Pairs.{pairs_of, AreWellFormed}
 use Rattle.plain_machine.specs.declared.request.Reply.{Reply}
-use Rattle.big_steps.specs.MergeShown.{IsWell, IsUnderWay, IsMerging}
-use Rattle.big_steps.specs.Snaps.{Snap}
+use Rattle.whole_commands.specs.MergeShown.{IsWell, IsUnderWay, IsMerging}
+use Rattle.whole_commands.specs.Snaps.{Snap}
 use Rattle.event_machine.specs.Held.{SnapHeld, MergeHeld}
 use Rattle.event_machine.specs.MergeRest.{IsBetween, in_big_steps}
 use Rattle.event_machine.specs.MergeSeen.{held_in, merge_held_of as held_merge}

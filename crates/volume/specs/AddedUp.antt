@@ -7,9 +7,9 @@ use Rattle.sector.specs.Bytes.{sector_at}
 use Rattle.plain_machine.specs.Plain.{InFlight}
 use Rattle.plain_machine.specs.Unwritten.{writes, is_written}
 use Rattle.in_flight.specs.Kinds.{in_flight}
-use Rattle.stop_laws.specs.Stop.{MayLeave}
-use Rattle.stop_laws.specs.Again.{IsOpen}
-use Rattle.stop_laws.specs.Clauses.{Gives}
+use Rattle.crash_laws.specs.Stop.{MayLeave}
+use Rattle.crash_laws.specs.Again.{IsOpen}
+use Rattle.crash_laws.specs.Clauses.{Gives}
 use Rattle.snapshot.specs.Kept.{Kept}
 use Rattle.merge.specs.Merging.{Merging}
 use Rattle.volume.specs.declared.calls.Call.{Call}

@@ -1,7 +1,7 @@
 -- What a call adds to what a volume's devices may hold after a stop, and that it adds nothing. holds: what a device may hold in a
 -- sector after a stop. This project's own.
 use Rattle.std.specs.Prelude.{ℕ, ◌<◌, List, Option, Some, None, length, slice_index_or}
-use Rattle.stop_laws.specs.Firm.{AddsNow}
+use Rattle.crash_laws.specs.Firm.{AddsNow}
 use Rattle.snapshot.specs.Kept.{Kept}
 use Rattle.merge.specs.Merging.{Merging}
 use Rattle.volume.specs.Volumed.{Volumed}

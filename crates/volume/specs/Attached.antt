@@ -1,4 +1,4 @@
--- What an attach makes of a volume: all that the machine of `big_steps` says of the reads, writes and flushes of the store and
+-- What an attach makes of a volume: all that the machine of `whole_commands` says of the reads, writes and flushes of the store and
 -- of the flush of the origin's device, and that a volume at rest stays at rest. This project's own.
 use Rattle.std.specs.Prelude.{◌≡◌, ◌≢◌, ◌⊎◌, ℕ, Bool, List, [], ◌∷◌, ◌++◌, Option, None, true, false}
 use Rattle.std.specs.List.{All}
@@ -8,10 +8,10 @@ use Rattle.device.specs.declared.operation.Operation.TheVariants.{Flushes}
 use Rattle.device.specs.Layers.{Layer, is_loud, layers_after}
 use Rattle.plain_machine.specs.declared.request.Reply.{Reply}
 use Rattle.plain_machine.specs.Plain.{overflow_of}
-use Rattle.big_steps.specs.Snaps.{Volume}
+use Rattle.whole_commands.specs.Snaps.{Volume}
 use Rattle.event_machine.specs.Requests.{volume_of}
 use Rattle.event_machine.specs.Rest.{IsAtRest}
-use Rattle.big_steps.specs.Attaching.{Store, attached}
+use Rattle.whole_commands.specs.Attaching.{Store, attached}
 use Rattle.snapshot.specs.declared.opening.StoreDev.{StoreDev}
 use Rattle.snapshot.specs.Kept.{Kept}
 use Rattle.store.specs.Opening.{faults_after}

@@ -5,7 +5,7 @@
 use Rattle.std.specs.Prelude.{◌≡◌, ◌⊎◌, ℕ, suc, ◌+◌, ◌<◌, Bool, true, false, List, [], ◌∷◌, ◌++◌, Option, Some, None, Any, length, map, slice_index, slice_index_or, slice_set, if◌then◌else◌}
 use Rattle.std.specs.List.{remove}
 use Rattle.sector.specs.Bytes.{next_count}
-use Rattle.store_bytes.specs.NextPlace.{LacksArea}
+use Rattle.cow_format.specs.NextPlace.{LacksArea}
 use Rattle.sector.specs.declared.pair.Pair.{Pair}
 use Rattle.plain_machine.specs.declared.event.Event.{Event}
 use Rattle.plain_machine.specs.declared.event.Event.TheVariants.{CopyRead, CopyWrite, FlushStore, MergeAreaRead, MergeCommit, MergeFlush, MergeGroup, MergeRead, MergeWrite, Publish, ZeroNext, WriteArea, WriteInvalid}

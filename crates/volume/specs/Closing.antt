@@ -3,7 +3,7 @@
 use Rattle.std.specs.Prelude.{◌≡◌, ℕ, ◌<◌, true, List, Option, Some, None, length, slice_index_or}
 use Rattle.sector.specs.Bytes.{sector_at}
 use Rattle.device.specs.Layers.{Layer, is_loud}
-use Rattle.store_bytes.specs.Picture.{picture}
+use Rattle.cow_format.specs.Picture.{picture}
 use Rattle.plain_machine.specs.declared.event.Event.{Event}
 use Rattle.plain_machine.specs.declared.event.Event.TheVariants.{Issue}
 use Rattle.plain_machine.specs.declared.event.Outcome.{Outcome}
@@ -13,8 +13,8 @@ use Rattle.plain_machine.specs.declared.request.Dev.TheVariants.{Origin, Snap}
 use Rattle.plain_machine.specs.declared.request.Reply.TheVariants.{Flushed}
 use Rattle.plain_machine.specs.declared.request.Request.{Request}
 use Rattle.plain_machine.specs.Plain.{InFlight, asked_under}
-use Rattle.loss_laws.specs.Lost.{IsFirmOn}
-use Rattle.stop_laws.specs.Again.{IsOpen}
+use Rattle.cache_loss_laws.specs.Lost.{IsFirmOn}
+use Rattle.crash_laws.specs.Again.{IsOpen}
 use Rattle.snapshot.specs.Kept.{Kept}
 use Rattle.merge.specs.Merging.{Merging}
 use Rattle.volume.specs.Volumed.{Volumed}

@@ -6,9 +6,9 @@ use Rattle.cow_header.specs.HeaderText.{found_in}
 use Rattle.device.specs.Layers.{Layer, is_loud}
 use Rattle.plain_machine.specs.Legal.{IsTaken}
 use Rattle.plain_machine.specs.Plain.{overflow_of}
-use Rattle.big_steps.specs.Attaching.{attached as attached_by, refused_attach}
-use Rattle.big_steps.specs.Refusals.{is_starved}
-use Rattle.stop_laws.specs.Firm.{IsFirm}
+use Rattle.whole_commands.specs.Attaching.{attached as attached_by, refused_attach}
+use Rattle.whole_commands.specs.Refusals.{is_starved}
+use Rattle.crash_laws.specs.Firm.{IsFirm}
 use Rattle.store.specs.Reading.{AreRead}
 use Rattle.snapshot.specs.Kept.{Kept}
 use Rattle.snapshot.specs.Opening.{shown_array}

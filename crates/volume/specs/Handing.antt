@@ -2,8 +2,8 @@
 -- may hold in a sector after a stop. This project's own.
 use Rattle.std.specs.Prelude.{◌≡◌, ℕ, ◌<◌, List, Some, slice_index_or}
 use Rattle.sector.specs.Bytes.{sector_at}
-use Rattle.stop_laws.specs.Stop.{MayLeave}
-use Rattle.stop_laws.specs.Again.{IsOpen}
+use Rattle.crash_laws.specs.Stop.{MayLeave}
+use Rattle.crash_laws.specs.Again.{IsOpen}
 use Rattle.snapshot.specs.Kept.{Kept}
 use Rattle.snapshot_list.specs.Finding.{place_of_snap}
 use Rattle.merge.specs.Merging.{Merging}

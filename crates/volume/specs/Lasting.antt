@@ -3,7 +3,7 @@
 use Rattle.std.specs.Prelude.{◌≡◌, ℕ, ◌<◌, true, List, Option, length, slice_index_or}
 use Rattle.std.specs.List.{All}
 use Rattle.device.specs.Layers.{Layer, is_loud}
-use Rattle.stop_laws.specs.Clauses.{Given, StopsSnap}
+use Rattle.crash_laws.specs.Clauses.{Given, StopsSnap}
 use Rattle.snapshot.specs.Kept.{Kept}
 use Rattle.volume.specs.Volumed.{Volumed}
 use Rattle.volume.specs.Whole.{IsWhole}

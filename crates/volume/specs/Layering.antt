@@ -4,7 +4,7 @@ use Rattle.std.specs.Prelude.{◌≡◌, ℕ, ◌<◌, List, Option, Some, None,
 use Rattle.device.specs.Layers.{Layer}
 use Rattle.layers.specs.Ticks.{layers_ticked}
 use Rattle.event_machine.specs.Held.{SnapHeld, MergeHeld, Moving, on_device}
-use Rattle.big_steps.specs.Moments.{relayered, store_relayered}
+use Rattle.whole_commands.specs.Moments.{relayered, store_relayered}
 use Rattle.store.specs.Layering.{IsRelayered}
 use Rattle.snapshot.specs.Kept.{Kept}
 use Rattle.merge.specs.Merging.{Merging}

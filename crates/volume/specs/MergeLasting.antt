@@ -2,8 +2,8 @@
 -- holds: what a device may hold in a sector after a stop. This project's own; the bytes are those of dm-snap-persistent.c.
 use Rattle.std.specs.Prelude.{◌≡◌, ℕ, true, List, Option, Some, None}
 use Rattle.device.specs.Layers.{Layer, is_loud}
-use Rattle.stop_laws.specs.Clauses.{Given, StopsMerge, StopsDisk}
-use Rattle.loss_laws.specs.Merging.{Merging as Lost, MergeLasts}
+use Rattle.crash_laws.specs.Clauses.{Given, StopsMerge, StopsDisk}
+use Rattle.cache_loss_laws.specs.Merging.{Merging as Lost, MergeLasts}
 use Rattle.merge.specs.Due.{is_finished_of}
 use Rattle.merge.specs.Lists.{copied_of}
 use Rattle.merge.specs.Merging.{Merging, flushed_of}

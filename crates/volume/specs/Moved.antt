@@ -3,7 +3,7 @@
 use Rattle.std.specs.Prelude.{ℕ, true, List, Option, Some, None, map}
 use Rattle.device.specs.Layers.{Layer}
 use Rattle.plain_machine.specs.declared.request.Reply.{Reply}
-use Rattle.big_steps.specs.Devices.{Device}
+use Rattle.whole_commands.specs.Devices.{Device}
 use Rattle.event_machine.specs.Held.{SnapHeld, Moving}
 use Rattle.event_machine.specs.Seen.{Seen, held_of as held_seen, going_of}
 use Rattle.snapshot.specs.Kept.{Kept, due_of_kept}
@@ -11,7 +11,7 @@ use Rattle.event_machine.specs.MergeSeen.{MergeSeen, held_in}
 use Rattle.merge.specs.Merging.{Merging, due_of as merging_due}
 use Rattle.volume.specs.Volumed.{Volumed}
 
--- a snapshot as `big_steps` sees it
+-- a snapshot as `whole_commands` sees it
 abbrev pub seen_of : {B : Type 0} → (B → List ℕ) → (B → List Layer) → Kept B → Seen
 seen_of contents layers s = record { due = due_of_kept contents layers s; layers = layers s.device; stale = s.stale; next = s.next }
 

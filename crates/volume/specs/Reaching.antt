@@ -11,7 +11,7 @@ use Rattle.event_machine.specs.MergeRest.{IsBetween}
 use Rattle.event_machine.specs.MergeStepping.{stepped_all}
 use Rattle.event_machine.specs.Settles.{settle_by}
 use Rattle.event_machine.specs.Stepping.{stepped}
-use Rattle.big_steps.specs.Merges.{Merged}
+use Rattle.whole_commands.specs.Merges.{Merged}
 use Rattle.volume.specs.Volumed.{Volumed, is_loud_in_all}
 use Rattle.volume.specs.Moved.{moving_of}
 use Rattle.volume.specs.Telling.{merged_in}

@@ -1,7 +1,7 @@
 -- To be believed: `run`'s output, a volume's steps or its attach are said in these words.
 -- What the devices' own bytes show: the origin's array, the snapshot that is being merged, and each snapshot.
 use Rattle.std.specs.Prelude.{ℕ, List, Option, Some, None, if◌then◌else◌}
-use Rattle.store_bytes.specs.Picture.{picture}
+use Rattle.cow_format.specs.Picture.{picture}
 use Rattle.plain_machine.specs.Plain.{Entry, Live, Invalid}
 use Rattle.snapshot.specs.Kept.{Kept}
 use Rattle.merge.specs.Merging.{Merging}

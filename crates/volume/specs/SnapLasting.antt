@@ -3,10 +3,10 @@
 use Rattle.std.specs.Prelude.{◌≡◌, ℕ, ◌<◌, true, false, List, length, slice_index_or}
 use Rattle.sector.specs.declared.pair.Pair.{Pair}
 use Rattle.device.specs.Layers.{Layer, is_loud}
-use Rattle.store_bytes.specs.Pairs.{pairs_of, AreWellFormed}
+use Rattle.cow_format.specs.Pairs.{pairs_of, AreWellFormed}
 use Rattle.in_flight.specs.declared.copies.ChunkCopy.{ChunkCopy}
 use Rattle.in_flight.specs.declared.copies.Stage.TheVariants.{Flushed}
-use Rattle.loss_laws.specs.Kept.{Kept as Lost, IsThere, SnapLasts, SnapRefused}
+use Rattle.cache_loss_laws.specs.Kept.{Kept as Lost, IsThere, SnapLasts, SnapRefused}
 use Rattle.snapshot.specs.Kept.{Kept}
 
 -- the pair of a copy that was written and flushed

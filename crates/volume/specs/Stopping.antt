@@ -5,8 +5,8 @@ use Rattle.std.specs.Prelude.{◌≡◌, ◌⊎◌, ℕ, ◌<◌, true, List, Op
 use Rattle.sector.specs.Bytes.{sector_at}
 use Rattle.sector.specs.declared.range.Range.{Range}
 use Rattle.device.specs.Layers.{Layer}
-use Rattle.store_bytes.specs.Pairs.{pairs_of}
-use Rattle.store_bytes.specs.Picture.{place_of}
+use Rattle.cow_format.specs.Pairs.{pairs_of}
+use Rattle.cow_format.specs.Picture.{place_of}
 use Rattle.plain_machine.specs.declared.event.Event.{Event}
 use Rattle.plain_machine.specs.declared.event.Event.TheVariants.{Issue}
 use Rattle.plain_machine.specs.declared.request.Dev.{Dev}
@@ -15,9 +15,9 @@ use Rattle.plain_machine.specs.declared.request.Op.{Op}
 use Rattle.plain_machine.specs.declared.request.Op.TheVariants.{Read, Write, Flush}
 use Rattle.plain_machine.specs.declared.request.Request.{Request}
 use Rattle.plain_machine.specs.Plain.{InFlight, asked_under}
-use Rattle.stop_laws.specs.Stop.{MayLeave, Within}
-use Rattle.stop_laws.specs.Again.{IsOpen}
-use Rattle.stop_laws.specs.Clauses.{Held, Given, Gives, StopsSnap, StopsMerge, StopsDisk}
+use Rattle.crash_laws.specs.Stop.{MayLeave, Within}
+use Rattle.crash_laws.specs.Again.{IsOpen}
+use Rattle.crash_laws.specs.Clauses.{Held, Given, Gives, StopsSnap, StopsMerge, StopsDisk}
 use Rattle.snapshot.specs.Kept.{Kept}
 use Rattle.merge.specs.Due.{is_finished_of}
 use Rattle.merge.specs.Merging.{Merging}

@@ -4,7 +4,7 @@
 use Rattle.std.specs.Prelude.{◌≡◌, ◌==◌, ◌&&◌, not, ℕ, ◌<◌, Bool, true, false, List, [], length, Option, Some, None}
 use Rattle.sector.specs.declared.pair.Pair.{Pair}
 use Rattle.device.specs.Layers.{Layer}
-use Rattle.store_bytes.specs.Pairs.{pairs_of}
+use Rattle.cow_format.specs.Pairs.{pairs_of}
 use Rattle.plain_machine.specs.declared.event.Event.{Event}
 use Rattle.plain_machine.specs.declared.event.Event.TheVariants.{MergeCommit}
 use Rattle.plain_machine.specs.declared.event.Outcome.{Outcome}

@@ -11,9 +11,9 @@ use Rattle.plain_machine.specs.declared.request.Dev.{Dev}
 use Rattle.plain_machine.specs.declared.request.Dev.TheVariants.{Origin, Snap}
 use Rattle.event_machine.specs.Held.{SnapHeld, MergeHeld, Moving}
 use Rattle.event_machine.specs.MergeRest.{merged_of}
-use Rattle.big_steps.specs.Moments.{relayered, origin_relayered, snap_relayered}
-use Rattle.big_steps.specs.Snaps.{Snap as SettledSnap, Volume}
-use Rattle.big_steps.specs.Merges.{Merge, Merged}
+use Rattle.whole_commands.specs.Moments.{relayered, origin_relayered, snap_relayered}
+use Rattle.whole_commands.specs.Snaps.{Snap as SettledSnap, Volume}
+use Rattle.whole_commands.specs.Merges.{Merge, Merged}
 use Rattle.store.specs.Layering.{IsRelayered}
 use Rattle.snapshot.specs.Kept.{Kept}
 use Rattle.merge.specs.Merging.{Merging}

@@ -4,10 +4,10 @@
 //!
 //! It stands on `snapshot_list` (the list of its snapshots: what is due of them, and which copies a write needs), on `snapshot`
 //! (each of them, with its store), on `merge` (the one that is being merged), on `in_flight` (copies, marks and requests in
-//! flight), on `volume_laws` (the laws of every event and of every request), on `loss_laws` (what a stop leaves where some of
+//! flight), on `volume_laws` (the laws of every event and of every request), on `cache_loss_laws` (what a stop leaves where some of
 //! what was written is lost: its invariants are the volume's own), and on `event_machine`. Words of its contracts
-//! are those of `plain_machine` (the machine that all layers above see), `sector`, `device`, `chunk`, `store_bytes`, `cow_header`, `store`,
-//! `chunk_alloc` and `big_steps`.
+//! are those of `plain_machine` (the machine that all layers above see), `sector`, `device`, `chunk`, `cow_format`, `cow_header`, `store`,
+//! `chunk_alloc` and `whole_commands`.
 //!
 //! It promises that its devices' own bytes stand for one plain machine, of which every call is a step, and of each event
 //! when it is due, that a whole number falls with it, and what made it fail; whatever the devices do, that a request leaves

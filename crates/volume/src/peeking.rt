@@ -1,7 +1,7 @@
 // What a volume's devices show, by their own bytes: for tests and audits.
 ghost use Rattle.std.specs.Prelude.{◌≡◌, ℕ, ◌+◌, ◌-◌, ◌*◌, ◌/◌, ◌<◌, ◌≤◌, IfErr, List, None, OnOk, Some, length, true};
 ghost use Rattle.sector.specs.Bytes.{sectors_at};
-ghost use Rattle.store_bytes.specs.Picture.{place_of as place_in};
+ghost use Rattle.cow_format.specs.Picture.{place_of as place_in};
 ghost use Rattle.plain_machine.specs.Serves.{Shows};
 ghost use Rattle.volume.specs.Peeking.{is_loud_merging, is_loud_under, listed_origin, picture_by, IsListed};
 ghost use Rattle.volume.specs.Volumed.{plain_of};

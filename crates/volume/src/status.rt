@@ -8,7 +8,7 @@ ghost use Rattle.event_machine.specs.Held.{MergeHeld};
 ghost use Rattle.event_machine.specs.MergeRest.{IsBetween, in_big_steps};
 ghost use Rattle.event_machine.specs.Rest.{IsAtRest};
 ghost use Rattle.merge.specs.Merging.{Merging};
-ghost use Rattle.big_steps.specs.MergeShown.{IsMerging};
+ghost use Rattle.whole_commands.specs.MergeShown.{IsMerging};
 ghost use Rattle.snapshot.specs.Kept.{Kept};
 ghost use Rattle.snapshot_list.specs.Finding.{place_of_snap};
 ghost use Rattle.snapshot_list.specs.Numbers.{number_of_snap};

@@ -3,7 +3,7 @@ ghost use Rattle.std.specs.Prelude.{◌≡◌, ℕ, ◌<◌, length, slice_index
 ghost use Rattle.snapshot.specs.Kept.{Kept};
 ghost use Rattle.volume.specs.DoesTick.{DoesTick};
 ghost use Rattle.volume.specs.Layering.{IsMergeLater, IsSnapLater};
-ghost use Rattle.stop_laws.specs.Firm.{AddsNow};
+ghost use Rattle.crash_laws.specs.Firm.{AddsNow};
 ghost use Rattle.volume.specs.Adding.{AddsMerge};
 
 use crate::Volume;

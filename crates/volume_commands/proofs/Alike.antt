@@ -3,12 +3,12 @@ use Rattle.std.proofs.Common.{◌≡◌, ℕ, Bool, List, [], ◌∷◌, length,
 use Rattle.std.specs.Prelude.{◌==◌, ◌&&◌, not}
 use Rattle.std.specs.List.{list_all}
 use Rattle.device.specs.Layers.{Layer, is_loud}
-use Rattle.big_steps.specs.Snaps.{Snap}
-use Rattle.big_steps.specs.Merges.{Merge, Merged}
+use Rattle.whole_commands.specs.Snaps.{Snap}
+use Rattle.whole_commands.specs.Merges.{Merge, Merged}
 use Rattle.event_machine.specs.Held.{SnapHeld, MergeHeld, Moving}
 use Rattle.event_machine.specs.MergeRest.{merge_in, merged_of as merged_in_events}
-use Rattle.big_steps.specs.Moments.{relayered, store_relayered}
-use Rattle.big_steps.specs.MergedMoments.{merged_relayered, store_relayered as merging_store_relayered}
+use Rattle.whole_commands.specs.Moments.{relayered, store_relayered}
+use Rattle.whole_commands.specs.MergedMoments.{merged_relayered, store_relayered as merging_store_relayered}
 use Rattle.snapshot.specs.Kept.{Kept}
 use Rattle.volume.specs.Volumed.{Volumed, is_loud_in_all, is_loud_with}
 use Rattle.volume.specs.Moved.{moving_of}

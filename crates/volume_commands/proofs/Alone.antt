@@ -13,7 +13,7 @@ use Rattle.chunk.proofs.Runs.{IsFirstPiece, first_piece, stands_first}
 use Rattle.plain_machine.specs.declared.request.Dev.{Dev}
 use Rattle.plain_machine.specs.declared.request.Op.TheVariants.{Read}
 use Rattle.plain_machine.specs.declared.request.Reply.TheVariants.{Data}
-use Rattle.big_steps.specs.Beside.{read_beside}
+use Rattle.whole_commands.specs.Beside.{read_beside}
 use Rattle.volume.specs.Volumed.{Volumed, piece_with}
 use Rattle.volume_commands.specs.Rested.{rested_of, merged_of, IsSettled}
 use Rattle.volume_commands.specs.Between.{IsBetween}

@@ -10,7 +10,7 @@ use Rattle.plain_machine.specs.declared.request.Dev.{Dev}
 use Rattle.plain_machine.specs.declared.request.Op.TheVariants.{Read, Write}
 use Rattle.plain_machine.specs.declared.request.Reply.{Reply}
 use Rattle.chunk.proofs.Runs.{StandsAt}
-use Rattle.big_steps.specs.Commands.{bytes_in}
+use Rattle.whole_commands.specs.Commands.{bytes_in}
 use Rattle.volume.specs.Volumed.{Volumed}
 use Rattle.plain_machine.specs.declared.request.Replied.{Replied}
 use Rattle.volume_commands.specs.Rested.{rested_of}

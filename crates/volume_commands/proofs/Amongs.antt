@@ -17,7 +17,7 @@ use Rattle.plain_machine.specs.declared.request.Reply.{Reply}
 use Rattle.plain_machine.specs.declared.request.Reply.TheVariants.{Refused}
 use Rattle.plain_machine.specs.declared.request.Failure.{Failure}
 use Rattle.plain_machine.specs.declared.request.Request.{Request}
-use Rattle.big_steps.specs.Commands.{bytes_in}
+use Rattle.whole_commands.specs.Commands.{bytes_in}
 use Rattle.snapshot.specs.Kept.{Kept}
 use Rattle.volume.specs.Volumed.{Volumed}
 use Rattle.snapshot_list.specs.Finding.{place_of_snap}

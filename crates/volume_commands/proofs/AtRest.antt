@@ -23,7 +23,7 @@ use Rattle.plain_machine.specs.declared.request.Request.{Request}
 use Rattle.in_flight.specs.Kinds.{in_flight}
 use Rattle.in_flight.specs.Routes.{refused_of}
 use Rattle.in_flight.specs.declared.flights.Flight.{Flight}
-use Rattle.big_steps.specs.Refusals.{IsStarved, is_starved}
+use Rattle.whole_commands.specs.Refusals.{IsStarved, is_starved}
 use Rattle.event_machine.specs.Submitting.{submitted}
 use Rattle.volume.specs.Flying.{Fits, IsFlown, IsTakenOut}
 use Rattle.volume.specs.Leaving.{is_quiet_of}

@@ -5,11 +5,11 @@ use Rattle.plain_machine.specs.declared.request.Dev.{Dev}
 use Rattle.plain_machine.specs.declared.request.Dev.TheVariants.{Origin, Snap as ToSnap}
 use Rattle.plain_machine.specs.declared.request.Reply.{Reply}
 use Rattle.plain_machine.specs.declared.request.Reply.TheVariants.{Data, Written, Flushed, Refused}
-use Rattle.big_steps.specs.Snaps.{Volume}
-use Rattle.big_steps.specs.Pieces.{Answered}
-use Rattle.big_steps.specs.Commands.{go_on, bytes_in, read_piece, read_pieces}
-use Rattle.big_steps.specs.Merges.{Merge, Merged, Merging, merged_of, beside, place_in, read_at, read_parts}
-use Rattle.big_steps.specs.MergeShown.{array_of}
+use Rattle.whole_commands.specs.Snaps.{Volume}
+use Rattle.whole_commands.specs.Pieces.{Answered}
+use Rattle.whole_commands.specs.Commands.{go_on, bytes_in, read_piece, read_pieces}
+use Rattle.whole_commands.specs.Merges.{Merge, Merged, Merging, merged_of, beside, place_in, read_at, read_parts}
+use Rattle.whole_commands.specs.MergeShown.{array_of}
 use Rattle.volume_commands.specs.Serving.{part_read}
 use Rattle.volume_commands.proofs.Shown.{arrays_with, begun_with}
 use Rattle.volume_commands.proofs.ReadRuns.{parts_read}

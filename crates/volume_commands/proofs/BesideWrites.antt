@@ -10,30 +10,30 @@ use Rattle.chunk.specs.Sizes.{is_chunk}
 use Rattle.chunk.specs.Pieces.{Span, span_of, Join, AreCutFrom, pieces_of}
 use Rattle.chunk.proofs.Limits.{is_chunk-some}
 use Rattle.chunk.proofs.Whole.{cut_pieces}
-use Rattle.store_bytes.proofs.Pictures.{length-picture}
+use Rattle.cow_format.proofs.Pictures.{length-picture}
 use Rattle.plain_machine.specs.Plain.{Saved, Live, Invalid, Shown}
 use Rattle.plain_machine.specs.declared.request.Dev.{Dev}
 use Rattle.plain_machine.specs.declared.request.Dev.TheVariants.{Origin, Snap as ToSnap}
-use Rattle.big_steps.specs.Refusals.{is_starved}
-use Rattle.big_steps.proofs.Starved.{starved_by}
+use Rattle.whole_commands.specs.Refusals.{is_starved}
+use Rattle.whole_commands.proofs.Starved.{starved_by}
 use Rattle.plain_machine.specs.declared.request.Op.TheVariants.{Write}
 use Rattle.plain_machine.specs.declared.request.Reply.{Reply}
 use Rattle.plain_machine.specs.declared.request.Reply.TheVariants.{Data, Written, Flushed, Refused}
 use Rattle.plain_machine.specs.declared.request.Failure.{Failure}
 use Rattle.plain_machine.specs.declared.request.Failure.TheVariants.{Invalid as Declined, Io, Overflow}
-use Rattle.big_steps.specs.Snaps.{Volume}
-use Rattle.big_steps.specs.Shown.{ShowTheSame}
-use Rattle.big_steps.specs.Pieces.{Answered}
-use Rattle.big_steps.specs.Commands.{write_piece, write_pieces, go_on}
-use Rattle.big_steps.proofs.Chunks.{HasChunks, answer_keeps}
-use Rattle.big_steps.proofs.Each.{Each}
-use Rattle.big_steps.specs.Beside.{chunk_beside, written_beside}
+use Rattle.whole_commands.specs.Snaps.{Volume}
+use Rattle.whole_commands.specs.Shown.{ShowTheSame}
+use Rattle.whole_commands.specs.Pieces.{Answered}
+use Rattle.whole_commands.specs.Commands.{write_piece, write_pieces, go_on}
+use Rattle.whole_commands.proofs.Chunks.{HasChunks, answer_keeps}
+use Rattle.whole_commands.proofs.Each.{Each}
+use Rattle.whole_commands.specs.Beside.{chunk_beside, written_beside}
 use Rattle.volume.specs.Volumed.{Volumed, piece_with}
 use Rattle.volume.specs.Moved.{moving_of}
 use Rattle.event_machine.specs.Held.{MergeHeld}
 use Rattle.event_machine.specs.MergeRest.{IsBetween, in_big_steps}
-use Rattle.big_steps.specs.Merges.{Merge, Merged, Merging, merged_of as in_one, beside, write_at, write_part, write_parts, place_in}
-use Rattle.big_steps.specs.MergeShown.{IsMerging, array_of, shown_through}
+use Rattle.whole_commands.specs.Merges.{Merge, Merged, Merging, merged_of as in_one, beside, write_at, write_part, write_parts, place_in}
+use Rattle.whole_commands.specs.MergeShown.{IsMerging, array_of, shown_through}
 use Rattle.volume_commands.specs.Rested.{rested_of, merged_of, IsSettled}
 use Rattle.plain_machine.specs.Failures.{refusal_of}
 use Rattle.volume_commands.specs.Commands.{IsDoneBy, IsWriteRefused}
@@ -43,7 +43,7 @@ use Rattle.volume_commands.proofs.Shown.{arrays_by, arrays_with, seen}
 use Rattle.volume_commands.proofs.Rests.{IsInside, IsWell, one_chunk, one_each}
 use Rattle.volume_commands.proofs.Parts.{with_sectors_none, kept_none, written_none}
 use Rattle.volume_commands.proofs.PlainReads.{missing_by, sectors_joined, has_pieces, settled_well, span_inside, IsUnder, under_by}
-use Rattle.big_step_laws.proofs.MergeServes.{WritesThrough, writes_through}
+use Rattle.whole_command_laws.proofs.MergeServes.{WritesThrough, writes_through}
 use Rattle.volume_commands.proofs.BesideReads.{with_merge}
 use Rattle.volume_commands.proofs.WriteRuns.{answer, parts_written, served_parts}
 use Rattle.volume_commands.proofs.Writing.{write_whole, write_first}

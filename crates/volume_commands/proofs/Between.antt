@@ -5,7 +5,7 @@ use Rattle.plain_machine.specs.declared.request.Reply.{Reply}
 use Rattle.event_machine.specs.Held.{Moving}
 use Rattle.event_machine.specs.MergeRest.{merge_in}
 use Rattle.event_machine.specs.Requests.{volume_of}
-use Rattle.big_steps.specs.Merges.{Merged}
+use Rattle.whole_commands.specs.Merges.{Merged}
 use Rattle.volume.specs.Volumed.{Volumed, is_loud_in_all}
 use Rattle.volume.specs.Moved.{moving_of}
 use Rattle.volume.specs.Leaving.{is_quiet_of}

@@ -8,8 +8,8 @@ use Rattle.plain_machine.specs.declared.event.Event.{Event}
 use Rattle.plain_machine.specs.declared.event.NotDue.{NotDue}
 use Rattle.plain_machine.specs.declared.event.Outcome.{Outcome}
 use Rattle.plain_machine.specs.declared.request.Request.{Request}
-use Rattle.big_steps.specs.Refusals.{IsStarved, is_starved}
-use Rattle.big_steps.proofs.Starved.{other_full}
+use Rattle.whole_commands.specs.Refusals.{IsStarved, is_starved}
+use Rattle.whole_commands.proofs.Starved.{other_full}
 use Rattle.event_machine.specs.MergeRest.{IsBetween}
 use Rattle.snapshot.specs.declared.opening.StoreDev.{StoreDev}
 use Rattle.volume.specs.Beginning.{IsNotBegun}

@@ -7,8 +7,8 @@ use Rattle.std.proofs.lemmas.List.{get_or-map, get_or_default, length-map}
 use Rattle.sector.specs.Bytes.{sector_at}
 use Rattle.sector.specs.declared.range.Range.{Range}
 use Rattle.device.specs.Layers.{Layer, is_loud}
-use Rattle.store_bytes.specs.Picture.{picture}
-use Rattle.stop_laws.specs.Clauses.{Gives}
+use Rattle.cow_format.specs.Picture.{picture}
+use Rattle.crash_laws.specs.Clauses.{Gives}
 use Rattle.plain_machine.specs.Plain.{InFlight, asked_under}
 use Rattle.plain_machine.specs.Failures.{refusal_of}
 use Rattle.plain_machine.specs.declared.event.Event.{Event}

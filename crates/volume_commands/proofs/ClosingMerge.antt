@@ -9,13 +9,13 @@ use Rattle.sector.specs.Bytes.{sector_at}
 use Rattle.sector.specs.declared.range.Range.{Range}
 use Rattle.device.specs.Layers.{Layer, is_loud}
 use Rattle.device.specs.declared.operation.Operation.TheVariants.{Flushes}
-use Rattle.store_bytes.specs.Pairs.{pairs_of}
-use Rattle.store_bytes.specs.Picture.{picture, place_of}
-use Rattle.stop_laws.specs.Again.{IsOpen}
-use Rattle.stop_laws.specs.Stop.{MayLeave}
-use Rattle.stop_laws.proofs.Open.{sector_plain}
-use Rattle.loss_laws.specs.Lost.{IsFirmOn}
-use Rattle.loss_laws.proofs.Closing.{firm_same, store_closes}
+use Rattle.cow_format.specs.Pairs.{pairs_of}
+use Rattle.cow_format.specs.Picture.{picture, place_of}
+use Rattle.crash_laws.specs.Again.{IsOpen}
+use Rattle.crash_laws.specs.Stop.{MayLeave}
+use Rattle.crash_laws.proofs.Open.{sector_plain}
+use Rattle.cache_loss_laws.specs.Lost.{IsFirmOn}
+use Rattle.cache_loss_laws.proofs.Closing.{firm_same, store_closes}
 use Rattle.plain_machine.specs.Kept.{kept}
 use Rattle.plain_machine.specs.Plain.{InFlight}
 use Rattle.plain_machine.specs.Failures.{refusal_of}
@@ -34,8 +34,8 @@ use Rattle.plain_machine.specs.declared.request.Reply.TheVariants.{Flushed, Refu
 use Rattle.plain_machine.specs.declared.request.Request.{Request}
 use Rattle.in_flight.specs.Kinds.{in_flight}
 use Rattle.in_flight.specs.declared.flights.Route.TheVariants.{Origin, Whole}
-use Rattle.big_steps.specs.Devices.{answers, met}
-use Rattle.big_steps.proofs.Each.{Each, each_from, each_weaker}
+use Rattle.whole_commands.specs.Devices.{answers, met}
+use Rattle.whole_commands.proofs.Each.{Each, each_from, each_weaker}
 use Rattle.event_machine.specs.Due.{due}
 use Rattle.event_machine.specs.Held.{Going, MergeHeld, Moving, on_device, with_merge}
 use Rattle.event_machine.specs.MergeDue.{due_all}
@@ -46,7 +46,7 @@ use Rattle.event_machine.specs.Stepping.{answer, for_some, issue, with_first}
 use Rattle.event_machine.specs.Submitting.{submitted}
 use Rattle.event_machine.proofs.Around.{IsIdle, at_with, due_request}
 use Rattle.event_machine.proofs.Lists.{same_number}
-use Rattle.big_step_laws.proofs.Primed.{resting_idle}
+use Rattle.whole_command_laws.proofs.Primed.{resting_idle}
 use Rattle.snapshot.specs.Kept.{Kept}
 use Rattle.snapshot_list.specs.Numbers.{number_of_snap}
 use Rattle.merge.specs.Merging.{Merging}

@@ -11,8 +11,8 @@ use Rattle.plain_machine.specs.declared.event.Outcome.{Outcome}
 use Rattle.plain_machine.specs.declared.request.Replied.{Replied}
 use Rattle.plain_machine.specs.declared.request.Reply.{Reply}
 use Rattle.in_flight.specs.declared.flights.Flight.{Flight}
-use Rattle.big_steps.specs.Merges.{Merged, merged}
-use Rattle.big_steps.specs.MergeShown.{IsMerging}
+use Rattle.whole_commands.specs.Merges.{Merged, merged}
+use Rattle.whole_commands.specs.MergeShown.{IsMerging}
 use Rattle.event_machine.specs.Due.{due}
 use Rattle.event_machine.specs.Held.{MergeHeld}
 use Rattle.event_machine.specs.MergeDue.{due_all}
@@ -21,7 +21,7 @@ use Rattle.event_machine.specs.MergeSeen.{held_in}
 use Rattle.event_machine.specs.Seen.{replied_by}
 use Rattle.merge.specs.Merging.{Merging}
 use Rattle.event_machine.proofs.Alone.{due_alone}
-use Rattle.big_step_laws.proofs.MergesSettle.{merge_settles}
+use Rattle.whole_command_laws.proofs.MergesSettle.{merge_settles}
 use Rattle.volume.specs.Leaving.{has_group_in, is_done_of, is_quiet_of}
 use Rattle.volume.specs.Moved.{merge_seen, moving_of}
 use Rattle.volume.specs.Reaching.{IsRunAll}

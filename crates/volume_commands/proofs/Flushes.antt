@@ -8,7 +8,7 @@ use Rattle.device.specs.Layers.{Layer}
 use Rattle.device.specs.declared.operation.Operation.TheVariants.{Flushes}
 use Rattle.chunk.specs.Sizes.{is_chunk}
 use Rattle.chunk.specs.Pieces.{Span}
-use Rattle.store_bytes.specs.Picture.{picture}
+use Rattle.cow_format.specs.Picture.{picture}
 use Rattle.plain_machine.specs.Failures.{refusal_of}
 use Rattle.plain_machine.specs.Plain.{Saved, Live, Invalid, Entry, Shown}
 use Rattle.plain_machine.specs.declared.request.Dev.{Dev}
@@ -20,14 +20,14 @@ use Rattle.plain_machine.specs.declared.request.Reply.{Reply}
 use Rattle.plain_machine.specs.declared.request.Reply.TheVariants.{Data, Written, Flushed, Refused}
 use Rattle.plain_machine.specs.declared.request.Replied.{Replied as Ended}
 use Rattle.plain_machine.specs.declared.request.Request.{Request}
-use Rattle.big_steps.specs.Devices.{Device, answers, flush_reply}
-use Rattle.big_steps.specs.Snaps.{Snap, Volume}
-use Rattle.big_steps.specs.Pieces.{Answered, flush_snap, in_snap}
-use Rattle.big_steps.specs.Commands.{flushed}
-use Rattle.big_steps.specs.Merges.{Merge, Merged, Merging, merged_of as in_one, flush_through, flushed_through}
-use Rattle.big_steps.specs.Requests.{FitsRange, answered_by}
+use Rattle.whole_commands.specs.Devices.{Device, answers, flush_reply}
+use Rattle.whole_commands.specs.Snaps.{Snap, Volume}
+use Rattle.whole_commands.specs.Pieces.{Answered, flush_snap, in_snap}
+use Rattle.whole_commands.specs.Commands.{flushed}
+use Rattle.whole_commands.specs.Merges.{Merge, Merged, Merging, merged_of as in_one, flush_through, flushed_through}
+use Rattle.whole_commands.specs.Requests.{FitsRange, answered_by}
 use Rattle.event_machine.specs.MergeSettles.{part_of}
-use Rattle.big_steps.specs.Beside.{served, served_by, flushed_beside}
+use Rattle.whole_commands.specs.Beside.{served, served_by, flushed_beside}
 use Rattle.volume.specs.Volumed.{Volumed, piece_with}
 use Rattle.volume_commands.specs.Rested.{Rested, rested_of, merged_of, IsSettled, has_dev}
 use Rattle.volume_commands.specs.Commands.{IsDoneBy, IsFlushRefused}
@@ -39,7 +39,7 @@ use Rattle.volume_commands.proofs.BesideReads.{with_merge}
 use Rattle.volume_commands.proofs.WriteRuns.{answer}
 use Rattle.volume_commands.proofs.ShownReads.{IsSame, either_same, IsKeptBy, either_kept, arrays_same}
 use Rattle.volume_commands.proofs.PlainReads.{missing_by, read_starved}
-use Rattle.big_steps.specs.Saving.{Saving}
+use Rattle.whole_commands.specs.Saving.{Saving}
 
 -- what a flush is answered, by what its device shows
 abbrev pub IsFlushBy : Saved → Reply → Type 0

@@ -10,13 +10,13 @@ use Rattle.chunk.specs.Pieces.{span_of}
 use Rattle.plain_machine.specs.declared.request.Dev.{Dev}
 use Rattle.plain_machine.specs.declared.request.Op.{Op}
 use Rattle.chunk.proofs.Runs.{IsFirstPiece}
-use Rattle.big_steps.specs.Commands.{piece_of as least_of}
-use Rattle.big_steps.specs.Requests.{FitsRange}
+use Rattle.whole_commands.specs.Commands.{piece_of as least_of}
+use Rattle.whole_commands.specs.Requests.{FitsRange}
 use Rattle.snapshot.specs.Kept.{Kept}
 use Rattle.merge.specs.Merging.{Merging}
 use Rattle.event_machine.specs.MergeRest.{merge_in}
 use Rattle.event_machine.specs.MergeSeen.{held_in}
-use Rattle.big_steps.specs.Beside.{chunk_by, chunk_beside}
+use Rattle.whole_commands.specs.Beside.{chunk_by, chunk_beside}
 use Rattle.volume.specs.Moved.{merge_seen}
 use Rattle.volume.specs.Volumed.{Volumed, piece_of, piece_with}
 use Rattle.volume_commands.specs.Rested.{attached_of, rested_of, snap_of, settled_of, merged_of, IsSettled}

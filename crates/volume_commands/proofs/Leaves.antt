@@ -5,8 +5,8 @@ use Rattle.std.specs.List.{list_all, remove}
 use Rattle.std.proofs.lemmas.Bool.{cases_Bool, cond-true, cond-false}
 use Rattle.std.proofs.lemmas.List.Quantifiers.{position-Some}
 use Rattle.device.specs.Layers.{Layer, is_loud}
-use Rattle.big_steps.specs.Snaps.{Snap}
-use Rattle.big_steps.specs.Attaching.{Store, detached, given_back}
+use Rattle.whole_commands.specs.Snaps.{Snap}
+use Rattle.whole_commands.specs.Attaching.{Store, detached, given_back}
 use Rattle.snapshot.specs.Kept.{Kept}
 use Rattle.snapshot.specs.declared.opening.StoreDev.{StoreDev}
 use Rattle.volume.specs.Volumed.{Volumed, is_loud_in_all, is_loud_with}

@@ -8,8 +8,8 @@ use Rattle.std.proofs.lemmas.List.Quantifiers.{position-Some}
 use Rattle.std.proofs.lemmas.Nat.{div-mul-add}
 use Rattle.device.specs.Layers.{Layer}
 use Rattle.chunk_alloc.specs.declared.usage.Usage.{Usage}
-use Rattle.store_bytes.specs.Pairs.{pairs_of}
-use Rattle.big_steps.specs.Saves.{next_of}
+use Rattle.cow_format.specs.Pairs.{pairs_of}
+use Rattle.whole_commands.specs.Saves.{next_of}
 use Rattle.event_machine.specs.Held.{SnapHeld}
 use Rattle.event_machine.specs.MergeRest.{IsBetween}
 use Rattle.event_machine.specs.Rest.{IsKept, IsResting}

@@ -6,7 +6,7 @@ use Rattle.plain_machine.specs.declared.request.Dev.TheVariants.{Origin}
 use Rattle.plain_machine.specs.declared.request.Op.TheVariants.{Write}
 use Rattle.device.specs.Layers.{Layer}
 use Rattle.in_flight.specs.declared.flights.Kind.TheVariants.{OriginWrite, SnapWrite}
-use Rattle.big_steps.specs.Refusals.{is_starved}
+use Rattle.whole_commands.specs.Refusals.{is_starved}
 use Rattle.merge.specs.Merging.{Merging}
 use Rattle.volume.specs.Lent.{is_bare, origin_write}
 use Rattle.volume.specs.Submitting.{submit_refusal}

@@ -3,16 +3,16 @@ use Rattle.std.proofs.Common.{◌≡◌, ℕ, List, [], ◌∷◌, map, Option, 
 use Rattle.std.specs.Prelude.{◌==◌}
 use Rattle.std.proofs.lemmas.Bool.{cases_Bool, cond-true, cond-false}
 use Rattle.device.specs.Layers.{Layer}
-use Rattle.store_bytes.specs.Picture.{picture}
+use Rattle.cow_format.specs.Picture.{picture}
 use Rattle.plain_machine.specs.Plain.{Live, Entry, Shown, without_saved}
-use Rattle.big_steps.specs.Merges.{Merge, Merged, resumed, resumed_by}
-use Rattle.big_steps.specs.Snaps.{shown}
+use Rattle.whole_commands.specs.Merges.{Merge, Merged, resumed, resumed_by}
+use Rattle.whole_commands.specs.Snaps.{shown}
 use Rattle.snapshot.specs.declared.opening.StoreDev.{StoreDev}
 use Rattle.volume.specs.Shown.{shown_origin, shown_begun}
 use Rattle.volume_commands.specs.Rested.{Attached, Rested, merged_of, snap_at, snap_of, without}
 use Rattle.volume_commands.specs.Merging.{IsBegunAs, IsTakenOutAs}
 use Rattle.volume_commands.specs.Showing.{arrays_in, entry_of, saved_at, IsRolledBack}
-use Rattle.big_steps.specs.MergeShown.{origin_shown}
+use Rattle.whole_commands.specs.MergeShown.{origin_shown}
 use Rattle.volume_commands.proofs.Shown.{arrays_with, seen, shown_by}
 use Rattle.merge.specs.Merging.{Merging}
 

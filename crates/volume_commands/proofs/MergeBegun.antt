@@ -8,7 +8,7 @@ use Rattle.std.proofs.lemmas.List.Quantifiers.{position-Some}
 use Rattle.device.specs.Layers.{Layer}
 use Rattle.sector.specs.declared.refusal.Refusal.{Refusal}
 use Rattle.sector.specs.declared.refusal.Refusal.TheVariants.{Invalid, JournalFull, NotQuiet}
-use Rattle.big_steps.specs.Merges.{begun as begun_in_big_steps}
+use Rattle.whole_commands.specs.Merges.{begun as begun_in_big_steps}
 use Rattle.event_machine.specs.Merging.{begun as begun_in_events}
 use Rattle.event_machine.specs.MergeRest.{merged_of as merged_in_events, IsBetween}
 use Rattle.event_machine.proofs.MergeCommands.{begun_is}

@@ -8,11 +8,11 @@ use Rattle.sector.specs.declared.pair.Pair.{Pair}
 use Rattle.sector.specs.declared.refusal.Refusal.{Refusal}
 use Rattle.sector.specs.declared.refusal.Refusal.TheVariants.{NotFinished, NotQuiet}
 use Rattle.device.specs.Layers.{Layer, is_loud}
-use Rattle.store_bytes.specs.Pairs.{pairs_of}
+use Rattle.cow_format.specs.Pairs.{pairs_of}
 use Rattle.volume_laws.proofs.Attaching.{picture_none}
-use Rattle.big_steps.specs.Snaps.{Volume}
-use Rattle.big_steps.specs.Merges.{Finished, Merge, Merged, finished, finished_by}
-use Rattle.big_steps.specs.MergeShown.{array_of, origin_shown}
+use Rattle.whole_commands.specs.Snaps.{Volume}
+use Rattle.whole_commands.specs.Merges.{Finished, Merge, Merged, finished, finished_by}
+use Rattle.whole_commands.specs.MergeShown.{array_of, origin_shown}
 use Rattle.event_machine.specs.MergeRest.{merge_in, IsBetween}
 use Rattle.event_machine.specs.MergeSeen.{held_in, merge_held_of}
 use Rattle.snapshot.specs.declared.opening.StoreDev.{StoreDev}

@@ -2,11 +2,11 @@
 use Rattle.std.proofs.Common.{◌≡◌, inl, inr, ℕ, List, [], ◌∷◌, map, Option, Some, None, refl, sym, ◌∙◌, ap, subst}
 use Rattle.std.proofs.lemmas.Bool.{cases_Bool, cond-false}
 use Rattle.device.specs.Layers.{Layer}
-use Rattle.big_steps.specs.Snaps.{Snap, Volume}
-use Rattle.big_steps.specs.Shown.{ShowTheSame}
-use Rattle.big_steps.specs.Merges.{Merge, Merged, Merging, merge_all, merged, merged_by}
-use Rattle.big_steps.specs.MergeShown.{IsMerging, IsUnseen}
-use Rattle.big_step_laws.proofs.MergeEnds.{merge_unseen}
+use Rattle.whole_commands.specs.Snaps.{Snap, Volume}
+use Rattle.whole_commands.specs.Shown.{ShowTheSame}
+use Rattle.whole_commands.specs.Merges.{Merge, Merged, Merging, merge_all, merged, merged_by}
+use Rattle.whole_commands.specs.MergeShown.{IsMerging, IsUnseen}
+use Rattle.whole_command_laws.proofs.MergeEnds.{merge_unseen}
 use Rattle.event_machine.specs.Held.{MergeHeld}
 use Rattle.event_machine.specs.MergeRest.{in_big_steps, merge_in}
 use Rattle.event_machine.specs.MergeSeen.{held_in}

@@ -3,7 +3,7 @@ use Rattle.std.proofs.Common.{◌≡◌, ℕ, false, List, ◌∷◌, length, ma
 use Rattle.std.specs.Prelude.{◌==◌, ◌&&◌, not}
 use Rattle.std.specs.List.{list_all}
 use Rattle.device.specs.Layers.{Layer}
-use Rattle.big_steps.specs.Merges.{resumed as resumed_in_big_steps, resumed_by}
+use Rattle.whole_commands.specs.Merges.{resumed as resumed_in_big_steps, resumed_by}
 use Rattle.event_machine.specs.Held.{MergeHeld, Moving, with_merge}
 use Rattle.event_machine.specs.Merging.{resumed as resumed_in_events}
 use Rattle.event_machine.specs.MergeRest.{merge_in, merged_of as merged_in_events}

@@ -4,11 +4,11 @@ use Rattle.std.specs.Prelude.{AllPairs, Some, None}
 use Rattle.std.specs.List.{All}
 use Rattle.device.specs.Layers.{Layer}
 use Rattle.chunk.specs.Sizes.{is_chunk}
-use Rattle.big_steps.specs.Merges.{Merged}
-use Rattle.big_steps.specs.MergeShown.{IsMerging, IsWell as IsOrderly}
-use Rattle.big_steps.proofs.Each.{Each, all_from}
-use Rattle.big_steps.proofs.Chunks.{HasChunks}
-use Rattle.big_steps.specs.Beside.{chunk_beside}
+use Rattle.whole_commands.specs.Merges.{Merged}
+use Rattle.whole_commands.specs.MergeShown.{IsMerging, IsWell as IsOrderly}
+use Rattle.whole_commands.proofs.Each.{Each, all_from}
+use Rattle.whole_commands.proofs.Chunks.{HasChunks}
+use Rattle.whole_commands.specs.Beside.{chunk_beside}
 use Rattle.event_machine.specs.Held.{MergeHeld}
 use Rattle.event_machine.specs.MergeRest.{IsBetween, in_big_steps}
 use Rattle.snapshot.specs.Kept.{Kept}

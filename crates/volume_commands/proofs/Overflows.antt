@@ -7,17 +7,17 @@ use Rattle.sector.specs.declared.pair.Pair.{Pair}
 use Rattle.chunk.specs.Pieces.{Span}
 use Rattle.device.specs.declared.operation.Operation.{Operation}
 use Rattle.device.specs.declared.operation.Operation.TheVariants.{Reads}
-use Rattle.store_bytes.specs.Places.{area_place}
-use Rattle.store_bytes.specs.Pairs.{pairs_of}
-use Rattle.store_bytes.specs.Picture.{place_of}
+use Rattle.cow_format.specs.Places.{area_place}
+use Rattle.cow_format.specs.Pairs.{pairs_of}
+use Rattle.cow_format.specs.Picture.{place_of}
 use Rattle.plain_machine.specs.declared.request.Overflowing.{Overflowing}
-use Rattle.big_steps.specs.Devices.{Device, answers}
-use Rattle.big_steps.specs.Snaps.{Snap, Volume}
-use Rattle.big_steps.specs.Saving.{Saving, next_place, is_full, has_chunk, save}
-use Rattle.big_steps.specs.Pieces.{save_all, save_at, write_place, write_saved, Answered}
-use Rattle.big_steps.specs.Merges.{Merge, Merging, sectors_in, write_disk, read_then, next_over, saved_round, saved_rounds, saved_over, copy_back, copy_all, group_of, flush, clear_slots, merge_group, read_before, in_area, merge_step, merge_steps, merge_all}
-use Rattle.big_steps.proofs.Saves.{saves_nothing, saves_full, saves_copy, chunk_read}
-use Rattle.big_steps.proofs.Keeps.{copy_keeps}
+use Rattle.whole_commands.specs.Devices.{Device, answers}
+use Rattle.whole_commands.specs.Snaps.{Snap, Volume}
+use Rattle.whole_commands.specs.Saving.{Saving, next_place, is_full, has_chunk, save}
+use Rattle.whole_commands.specs.Pieces.{save_all, save_at, write_place, write_saved, Answered}
+use Rattle.whole_commands.specs.Merges.{Merge, Merging, sectors_in, write_disk, read_then, next_over, saved_round, saved_rounds, saved_over, copy_back, copy_all, group_of, flush, clear_slots, merge_group, read_before, in_area, merge_step, merge_steps, merge_all}
+use Rattle.whole_commands.proofs.Saves.{saves_nothing, saves_full, saves_copy, chunk_read}
+use Rattle.whole_commands.proofs.Keeps.{copy_keeps}
 
 -- of all snapshots
 abbrev pub overflows_of : List Snap → List Overflowing

@@ -15,23 +15,23 @@ use Rattle.chunk.proofs.Whole.{cut_pieces}
 use Rattle.plain_machine.specs.Plain.{Saved, Live, Invalid, Shown}
 use Rattle.plain_machine.specs.declared.request.Dev.{Dev}
 use Rattle.plain_machine.specs.declared.request.Dev.TheVariants.{Origin, Snap as ToSnap}
-use Rattle.big_steps.specs.Refusals.{is_starved}
-use Rattle.big_steps.proofs.Starved.{starved_by}
+use Rattle.whole_commands.specs.Refusals.{is_starved}
+use Rattle.whole_commands.proofs.Starved.{starved_by}
 use Rattle.plain_machine.specs.declared.request.Reply.{Reply}
 use Rattle.plain_machine.specs.declared.request.Reply.TheVariants.{Data, Written, Flushed, Refused}
 use Rattle.plain_machine.specs.declared.request.Failure.TheVariants.{Invalid as Declined, Io, Overflow}
-use Rattle.big_steps.specs.Snaps.{Volume}
-use Rattle.big_steps.specs.Commands.{read_pieces}
-use Rattle.big_steps.specs.Merges.{Merge, Merged, Merging, merged_of as in_one, read_parts}
-use Rattle.big_steps.specs.MergeShown.{IsMerging, shown_through}
-use Rattle.big_step_laws.proofs.MergeReads.{range_read}
-use Rattle.big_steps.proofs.Each.{Each, each_from}
-use Rattle.big_steps.proofs.Chunks.{HasChunks}
+use Rattle.whole_commands.specs.Snaps.{Volume}
+use Rattle.whole_commands.specs.Commands.{read_pieces}
+use Rattle.whole_commands.specs.Merges.{Merge, Merged, Merging, merged_of as in_one, read_parts}
+use Rattle.whole_commands.specs.MergeShown.{IsMerging, shown_through}
+use Rattle.whole_command_laws.proofs.MergeReads.{range_read}
+use Rattle.whole_commands.proofs.Each.{Each, each_from}
+use Rattle.whole_commands.proofs.Chunks.{HasChunks}
 use Rattle.snapshot.specs.Kept.{Kept}
 use Rattle.volume.specs.Volumed.{Volumed, piece_with}
 use Rattle.event_machine.specs.Held.{MergeHeld}
 use Rattle.event_machine.specs.MergeRest.{IsBetween, merge_in, in_big_steps}
-use Rattle.big_steps.specs.Beside.{chunk_beside, read_beside}
+use Rattle.whole_commands.specs.Beside.{chunk_beside, read_beside}
 use Rattle.volume.specs.Moved.{moving_of}
 use Rattle.volume_commands.specs.Rested.{Attached, Rested, attached_of, rested_of, snap_of, settled_of, merged_of, IsSettled, has_dev, has_number}
 use Rattle.plain_machine.specs.Failures.{refusal_of}
@@ -47,7 +47,7 @@ use Rattle.volume_commands.proofs.Reading.{read_whole, read_first_parts}
 use Rattle.volume_commands.proofs.BesideReads.{parts_shown, snap_parts}
 use Rattle.volume_commands.proofs.Rests.{IsInside, IsWell, inside_joined}
 use Rattle.volume_commands.proofs.ShownReads.{IsReadTo, pieces_read, pieces_dead}
-use Rattle.big_steps.specs.Pieces.{Answered}
+use Rattle.whole_commands.specs.Pieces.{Answered}
 
 pub saved_cases : (s : Saved) → (s ≡ Invalid) ⊎ ((array : List ℕ) × (s ≡ Live array))
 saved_cases Invalid = inl refl

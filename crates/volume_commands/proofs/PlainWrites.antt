@@ -8,8 +8,8 @@ use Rattle.sector.specs.declared.range.Range.{Range}
 use Rattle.device.specs.declared.operation.Operation.TheVariants.{Writes}
 use Rattle.chunk.specs.Sizes.{is_chunk}
 use Rattle.chunk.specs.Pieces.{Span, Join}
-use Rattle.store_bytes.specs.Picture.{picture}
-use Rattle.store_bytes.proofs.Pictures.{length-picture}
+use Rattle.cow_format.specs.Picture.{picture}
+use Rattle.cow_format.proofs.Pictures.{length-picture}
 use Rattle.plain_machine.specs.Plain.{Saved, Live, Invalid, Entry, marked_in, overflow_under, Shown}
 use Rattle.plain_machine.specs.declared.request.Dev.{Dev}
 use Rattle.plain_machine.specs.declared.request.Dev.TheVariants.{Origin, Snap as ToSnap}
@@ -19,17 +19,17 @@ use Rattle.plain_machine.specs.declared.request.Op.TheVariants.{Write}
 use Rattle.plain_machine.specs.declared.request.Reply.{Reply}
 use Rattle.plain_machine.specs.declared.request.Reply.TheVariants.{Data, Written, Flushed, Refused}
 use Rattle.plain_machine.specs.declared.request.Failure.TheVariants.{Invalid as Declined, Io, Overflow}
-use Rattle.big_steps.specs.Devices.{Device, answers}
-use Rattle.big_steps.specs.Snaps.{Snap, Volume}
-use Rattle.big_steps.specs.Shown.{ShowTheSame}
-use Rattle.big_steps.specs.Saving.{save}
-use Rattle.big_steps.specs.Pieces.{Answered, save_all, write_origin, write_snap, in_snap}
-use Rattle.big_steps.specs.Commands.{write_piece, write_pieces, go_on}
+use Rattle.whole_commands.specs.Devices.{Device, answers}
+use Rattle.whole_commands.specs.Snaps.{Snap, Volume}
+use Rattle.whole_commands.specs.Shown.{ShowTheSame}
+use Rattle.whole_commands.specs.Saving.{save}
+use Rattle.whole_commands.specs.Pieces.{Answered, save_all, write_origin, write_snap, in_snap}
+use Rattle.whole_commands.specs.Commands.{write_piece, write_pieces, go_on}
 use Rattle.event_machine.specs.Held.{SnapHeld}
-use Rattle.big_steps.proofs.Each.{Each}
-use Rattle.big_steps.proofs.Chunks.{HasChunks}
-use Rattle.big_step_laws.proofs.Shown.{origin_write_shows}
-use Rattle.big_steps.proofs.SavedBytes.{save_all_bytes}
+use Rattle.whole_commands.proofs.Each.{Each}
+use Rattle.whole_commands.proofs.Chunks.{HasChunks}
+use Rattle.whole_command_laws.proofs.Shown.{origin_write_shows}
+use Rattle.whole_commands.proofs.SavedBytes.{save_all_bytes}
 use Rattle.volume_commands.specs.Showing.{entry_of, arrays_of, saved_at, saved_of, with_bytes, IsLive, IsOpen, AreKept, IsWritten, IsWrittenInPart, IsOverflown, IsLost, sectors_in}
 use Rattle.volume_commands.proofs.Rests.{IsInside, IsWell, one_all, well_orders, well_whole, well_after}
 use Rattle.volume_commands.proofs.Overflows.{save_overflow}

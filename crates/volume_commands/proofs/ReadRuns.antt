@@ -5,11 +5,11 @@ use Rattle.plain_machine.specs.declared.request.Dev.{Dev}
 use Rattle.plain_machine.specs.declared.request.Reply.{Reply}
 use Rattle.plain_machine.specs.declared.request.Reply.TheVariants.{Data, Written, Flushed, Refused}
 use Rattle.plain_machine.specs.declared.request.Failure.{Failure}
-use Rattle.big_steps.specs.Snaps.{Volume}
-use Rattle.big_steps.specs.Pieces.{Answered}
-use Rattle.big_steps.specs.Commands.{go_on, bytes_in, read_piece, read_pieces}
-use Rattle.big_steps.specs.Merges.{Merge, Merged, Merging, read_part, read_parts}
-use Rattle.big_steps.specs.Beside.{alone, beside, served, served_by}
+use Rattle.whole_commands.specs.Snaps.{Volume}
+use Rattle.whole_commands.specs.Pieces.{Answered}
+use Rattle.whole_commands.specs.Commands.{go_on, bytes_in, read_piece, read_pieces}
+use Rattle.whole_commands.specs.Merges.{Merge, Merged, Merging, read_part, read_parts}
+use Rattle.whole_commands.specs.Beside.{alone, beside, served, served_by}
 use Rattle.volume_commands.specs.Serving.{IsGood, part_read}
 use Rattle.volume_commands.proofs.WriteRuns.{answer, alone_goes, beside_goes, take_front, joined, ends}
 

@@ -12,18 +12,18 @@ use Rattle.sector.specs.declared.refusal.Refusal.TheVariants.{NoMemory}
 use Rattle.device.specs.Layers.{Layer}
 use Rattle.device.specs.declared.operation.Operation.TheVariants.{Reads}
 use Rattle.chunk.specs.Pieces.{Span, span_of, pieces_of, part_in, touched}
-use Rattle.store_bytes.specs.Pairs.{pairs_of}
-use Rattle.store_bytes.specs.Picture.{place_of}
+use Rattle.cow_format.specs.Pairs.{pairs_of}
+use Rattle.cow_format.specs.Picture.{place_of}
 use Rattle.plain_machine.specs.declared.request.Dev.{Dev}
 use Rattle.plain_machine.specs.declared.request.Dev.TheVariants.{Origin, Snap as ToSnap}
 use Rattle.plain_machine.specs.declared.request.Reply.{Reply}
 use Rattle.plain_machine.specs.declared.request.Reply.TheVariants.{Data}
-use Rattle.big_steps.specs.Devices.{Device, answers, read_reply}
-use Rattle.big_steps.specs.Snaps.{Snap, Volume}
-use Rattle.big_steps.specs.Pieces.{read_place, read_snap, in_snap, Answered}
-use Rattle.big_steps.specs.Commands.{bytes_in, read_piece, read_pieces, read}
-use Rattle.big_steps.specs.Merges.{Merge, Merged, Merging, place_in, read_at, read_parts, read_through}
-use Rattle.big_steps.specs.Beside.{served_by, chunk_by, chunk_beside, read_beside, read_first_beside}
+use Rattle.whole_commands.specs.Devices.{Device, answers, read_reply}
+use Rattle.whole_commands.specs.Snaps.{Snap, Volume}
+use Rattle.whole_commands.specs.Pieces.{read_place, read_snap, in_snap, Answered}
+use Rattle.whole_commands.specs.Commands.{bytes_in, read_piece, read_pieces, read}
+use Rattle.whole_commands.specs.Merges.{Merge, Merged, Merging, place_in, read_at, read_parts, read_through}
+use Rattle.whole_commands.specs.Beside.{served_by, chunk_by, chunk_beside, read_beside, read_first_beside}
 use Rattle.chunk.proofs.Runs.{StandsAt}
 use Rattle.volume.specs.Volumed.{Volumed}
 use Rattle.volume_commands.specs.Rested.{rested_of, merged_of, IsSettled, has_dev}
@@ -32,7 +32,7 @@ use Rattle.volume_commands.specs.Serving.{CanAsk, part_read, IsPieceRead, IsPiec
 use Rattle.volume_commands.proofs.WriteRuns.{answer}
 use Rattle.volume_commands.proofs.Going.{GoesSo}
 use Rattle.volume_commands.proofs.ReadRuns.{parts_read, served_parts, ReadsTo, reads_more, reads_all, reads_failed, reads_first, reads_fewer}
-use Rattle.big_steps.specs.Saving.{Saving}
+use Rattle.whole_commands.specs.Saving.{Saving}
 
 -- a reply has at most so many bytes
 abbrev HasAtMost : ℕ → Reply → Type 0

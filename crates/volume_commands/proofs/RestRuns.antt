@@ -8,7 +8,7 @@ use Rattle.plain_machine.specs.declared.request.Dev.{Dev}
 use Rattle.plain_machine.specs.declared.request.Op.{Op}
 use Rattle.plain_machine.specs.declared.request.Op.TheVariants.{Read, Write}
 use Rattle.plain_machine.specs.declared.request.Reply.{Reply}
-use Rattle.big_steps.specs.Commands.{bytes_in}
+use Rattle.whole_commands.specs.Commands.{bytes_in}
 use Rattle.volume.specs.Volumed.{Volumed}
 use Rattle.volume_commands.specs.Among.{sectors_of}
 use Rattle.volume_commands.specs.AtRest.{AreReadAtRest, AreWrittenAtRest, IsPieceAnswered, IsPieceUndone, IsReadCut, IsReadUndone, IsWriteCut}

@@ -8,18 +8,18 @@ use Rattle.chunk.proofs.Wider.{wider}
 use Rattle.plain_machine.specs.declared.request.Request.{Request}
 use Rattle.plain_machine.specs.declared.request.Dev.{Dev}
 use Rattle.plain_machine.specs.declared.request.Op.{Op}
-use Rattle.big_steps.specs.Order.{IsInOrder}
+use Rattle.whole_commands.specs.Order.{IsInOrder}
 use Rattle.chunk.proofs.PiecePlaces.{join_le, piece_high}
-use Rattle.big_steps.specs.Snaps.{Snap, Volume}
+use Rattle.whole_commands.specs.Snaps.{Snap, Volume}
 use Rattle.event_machine.specs.Held.{SnapHeld, Moving}
 use Rattle.event_machine.specs.Rest.{IsResting, IsAtRest}
 use Rattle.event_machine.specs.Settles.{SettlesTo}
 use Rattle.event_machine.specs.Submitting.{submitted}
 use Rattle.event_machine.specs.Requests.{volume_of, IsInChunk, IsFit}
-use Rattle.big_steps.specs.Requests.{answered_by, answer_of, FitsRange}
-use Rattle.big_steps.proofs.Each.{Each, all_from, each_from, each_weaker}
-use Rattle.big_step_laws.proofs.Requests.{request_settles}
-use Rattle.big_steps.proofs.Chunks.{HasChunks, answer_keeps}
+use Rattle.whole_commands.specs.Requests.{answered_by, answer_of, FitsRange}
+use Rattle.whole_commands.proofs.Each.{Each, all_from, each_from, each_weaker}
+use Rattle.whole_command_laws.proofs.Requests.{request_settles}
+use Rattle.whole_commands.proofs.Chunks.{HasChunks, answer_keeps}
 
 -- a live snapshot's store is in order
 abbrev pub IsOrderly : ℕ → Snap → Type 0

@@ -7,11 +7,11 @@ use Rattle.device.specs.Layers.{Layer, is_loud}
 use Rattle.plain_machine.specs.declared.request.Dev.{Dev}
 use Rattle.plain_machine.specs.declared.request.Dev.TheVariants.{Origin, Snap as ToSnap}
 use Rattle.plain_machine.specs.declared.request.Reply.{Reply}
-use Rattle.big_steps.specs.Snaps.{Snap, Volume}
+use Rattle.whole_commands.specs.Snaps.{Snap, Volume}
 use Rattle.event_machine.specs.Held.{SnapHeld}
 use Rattle.event_machine.specs.MergeRest.{merge_in, merged_of as merged_in_events}
 use Rattle.event_machine.specs.Requests.{volume_of}
-use Rattle.big_steps.specs.Merges.{Merged}
+use Rattle.whole_commands.specs.Merges.{Merged}
 use Rattle.snapshot.specs.Kept.{Kept}
 use Rattle.merge.specs.Merging.{Merging}
 use Rattle.volume.specs.Asking.{merging_number}

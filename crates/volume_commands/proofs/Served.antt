@@ -9,12 +9,12 @@ use Rattle.plain_machine.specs.declared.request.Request.{Request}
 use Rattle.plain_machine.specs.declared.request.Reply.{Reply}
 use Rattle.chunk.specs.Sizes.{is_chunk}
 use Rattle.chunk.specs.Pieces.{span_of, IsInOneChunk}
-use Rattle.big_steps.specs.Merges.{Merged, Merging, merged_of as in_one}
-use Rattle.big_steps.specs.MergeShown.{IsMerging}
-use Rattle.big_steps.specs.Snaps.{Snap, Volume}
-use Rattle.big_steps.specs.Pieces.{Answered}
-use Rattle.big_steps.specs.Requests.{answer_of}
-use Rattle.big_steps.specs.Beside.{served_by}
+use Rattle.whole_commands.specs.Merges.{Merged, Merging, merged_of as in_one}
+use Rattle.whole_commands.specs.MergeShown.{IsMerging}
+use Rattle.whole_commands.specs.Snaps.{Snap, Volume}
+use Rattle.whole_commands.specs.Pieces.{Answered}
+use Rattle.whole_commands.specs.Requests.{answer_of}
+use Rattle.whole_commands.specs.Beside.{served_by}
 use Rattle.event_machine.specs.Held.{MergeHeld, Moving}
 use Rattle.event_machine.specs.Due.{due}
 use Rattle.event_machine.specs.MergeRest.{IsBetween, merge_in, in_big_steps}
@@ -24,8 +24,8 @@ use Rattle.event_machine.specs.Requests.{volume_of, IsInChunk, IsFit}
 use Rattle.event_machine.specs.Settles.{SettlesTo}
 use Rattle.event_machine.specs.Submitting.{submitted}
 use Rattle.event_machine.proofs.MergeCommands.{alone_between, merged_between}
-use Rattle.big_step_laws.proofs.Requests.{request_settles}
-use Rattle.big_step_laws.proofs.PartsSettle.{part_settles}
+use Rattle.whole_command_laws.proofs.Requests.{request_settles}
+use Rattle.whole_command_laws.proofs.PartsSettle.{part_settles}
 use Rattle.snapshot.specs.Kept.{Kept}
 use Rattle.merge.specs.Merging.{Merging as MergingKept}
 use Rattle.volume.specs.Volumed.{Volumed, piece_with}

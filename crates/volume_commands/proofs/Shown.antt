@@ -3,8 +3,8 @@ use Rattle.std.proofs.Common.{◌≡◌, ℕ, List, Option, Some, None, refl, sy
 use Rattle.device.specs.Layers.{Layer}
 use Rattle.event_machine.specs.MergeRest.{merge_in}
 use Rattle.event_machine.specs.MergeSeen.{held_in}
-use Rattle.big_steps.specs.Merges.{Merged, Merge}
-use Rattle.big_steps.specs.MergeShown.{origin_shown}
+use Rattle.whole_commands.specs.Merges.{Merged, Merge}
+use Rattle.whole_commands.specs.MergeShown.{origin_shown}
 use Rattle.merge.specs.Merging.{Merging}
 use Rattle.volume.specs.Moved.{merge_seen}
 use Rattle.volume.specs.Shown.{shown_origin, shown_begun}

@@ -8,8 +8,8 @@ use Rattle.sector.specs.Bytes.{sectors_at}
 use Rattle.device.specs.declared.operation.Operation.TheVariants.{Reads}
 use Rattle.chunk.specs.Sizes.{is_chunk}
 use Rattle.chunk.specs.Pieces.{Span, Join}
-use Rattle.store_bytes.specs.Pairs.{pairs_of}
-use Rattle.store_bytes.specs.Picture.{place_of, picture}
+use Rattle.cow_format.specs.Pairs.{pairs_of}
+use Rattle.cow_format.specs.Picture.{place_of, picture}
 use Rattle.plain_machine.specs.Plain.{Saved, Live, Invalid, Entry, Shown}
 use Rattle.plain_machine.specs.declared.request.Dev.{Dev}
 use Rattle.plain_machine.specs.declared.request.Dev.TheVariants.{Origin, Snap as ToSnap}
@@ -17,17 +17,17 @@ use Rattle.plain_machine.specs.declared.request.Op.TheVariants.{Read}
 use Rattle.plain_machine.specs.declared.request.Reply.{Reply}
 use Rattle.plain_machine.specs.declared.request.Reply.TheVariants.{Data, Written, Flushed, Refused}
 use Rattle.plain_machine.specs.declared.request.Failure.TheVariants.{Invalid as Declined, Io, Overflow}
-use Rattle.big_steps.proofs.Laws.{option_cases}
-use Rattle.big_steps.proofs.PictureSectors.{shown_plain, shown_copied, place_inside}
-use Rattle.big_steps.specs.Devices.{Device, answers, read_reply}
-use Rattle.big_steps.specs.Snaps.{Snap, Volume, shown}
-use Rattle.big_steps.specs.Pieces.{Answered, read_place, read_snap, in_snap}
-use Rattle.big_steps.specs.Commands.{read_piece, read_pieces, go_on, bytes_in}
-use Rattle.big_steps.proofs.Each.{Each}
-use Rattle.big_steps.proofs.Chunks.{HasChunks}
+use Rattle.whole_commands.proofs.Laws.{option_cases}
+use Rattle.whole_commands.proofs.PictureSectors.{shown_plain, shown_copied, place_inside}
+use Rattle.whole_commands.specs.Devices.{Device, answers, read_reply}
+use Rattle.whole_commands.specs.Snaps.{Snap, Volume, shown}
+use Rattle.whole_commands.specs.Pieces.{Answered, read_place, read_snap, in_snap}
+use Rattle.whole_commands.specs.Commands.{read_piece, read_pieces, go_on, bytes_in}
+use Rattle.whole_commands.proofs.Each.{Each}
+use Rattle.whole_commands.proofs.Chunks.{HasChunks}
 use Rattle.volume_commands.specs.Showing.{entry_of, arrays_of, saved_at, saved_of, sectors_in}
 use Rattle.volume_commands.proofs.Rests.{IsOrderly, IsInside, IsWell, room_in, well_orders, well_whole, well_after}
-use Rattle.big_steps.specs.Saving.{Saving}
+use Rattle.whole_commands.specs.Saving.{Saving}
 
 -- a read of an array: the bytes of these sectors, or a failure
 abbrev pub IsReadOf : List ℕ → Span → Reply → Type 0

@@ -7,8 +7,8 @@ use Rattle.sector.specs.declared.pair.Pair.{Pair}
 use Rattle.device.specs.declared.operation.Operation.TheVariants.{Writes}
 use Rattle.chunk.specs.Sizes.{is_chunk}
 use Rattle.chunk.specs.Pieces.{Span}
-use Rattle.store_bytes.specs.Pairs.{pairs_of}
-use Rattle.store_bytes.specs.Picture.{place_of, picture}
+use Rattle.cow_format.specs.Pairs.{pairs_of}
+use Rattle.cow_format.specs.Picture.{place_of, picture}
 use Rattle.plain_machine.specs.Plain.{Saved, Live, Invalid, Entry, marked_in, overflow_under}
 use Rattle.plain_machine.specs.declared.request.Overflowing.{Overflowing}
 use Rattle.plain_machine.specs.declared.request.Overflowing.TheVariants.{Never, Did}
@@ -16,24 +16,24 @@ use Rattle.plain_machine.specs.declared.request.Reply.{Reply}
 use Rattle.plain_machine.specs.declared.request.Reply.TheVariants.{Data, Written, Flushed, Refused}
 use Rattle.plain_machine.specs.declared.request.Failure.TheVariants.{Invalid as Declined, Io, Overflow}
 use Rattle.volume_laws.proofs.PlaceWrites.{picture_placed}
-use Rattle.big_steps.specs.Saves.{Saving as Stored, next_of, saved}
-use Rattle.big_steps.specs.Order.{IsInOrder}
-use Rattle.big_steps.proofs.Saved.{AfterSaving, IsSavedTo}
-use Rattle.big_steps.proofs.Laws.{saving_law, option_cases}
+use Rattle.whole_commands.specs.Saves.{Saving as Stored, next_of, saved}
+use Rattle.whole_commands.specs.Order.{IsInOrder}
+use Rattle.whole_commands.proofs.Saved.{AfterSaving, IsSavedTo}
+use Rattle.whole_commands.proofs.Laws.{saving_law, option_cases}
 use Rattle.chunk.proofs.PiecePlaces.{piece_low}
-use Rattle.big_steps.proofs.PictureSectors.{place_inside}
-use Rattle.big_steps.specs.Devices.{Device, answers, written_by}
-use Rattle.big_steps.specs.Snaps.{Snap, shown, Volume}
-use Rattle.big_steps.specs.Saving.{Saving, next_place, is_full, has_chunk, save}
-use Rattle.big_steps.specs.Pieces.{Answered, shuts, write_place, write_saved, write_snap, in_snap}
+use Rattle.whole_commands.proofs.PictureSectors.{place_inside}
+use Rattle.whole_commands.specs.Devices.{Device, answers, written_by}
+use Rattle.whole_commands.specs.Snaps.{Snap, shown, Volume}
+use Rattle.whole_commands.specs.Saving.{Saving, next_place, is_full, has_chunk, save}
+use Rattle.whole_commands.specs.Pieces.{Answered, shuts, write_place, write_saved, write_snap, in_snap}
 use Rattle.event_machine.specs.Held.{SnapHeld}
 use Rattle.event_machine.specs.Rest.{IsResting}
-use Rattle.big_steps.proofs.Each.{Each}
-use Rattle.big_steps.proofs.Chunks.{HasChunks, save_chunk}
-use Rattle.big_steps.proofs.Saves.{saves_nothing, saves_full, saves_copy, chunk_read, stored_of, save_live}
-use Rattle.big_steps.proofs.Keeps.{copy_keeps}
-use Rattle.big_step_laws.proofs.PlaceRests.{place_rests}
-use Rattle.big_steps.proofs.SavedBytes.{save_bytes}
+use Rattle.whole_commands.proofs.Each.{Each}
+use Rattle.whole_commands.proofs.Chunks.{HasChunks, save_chunk}
+use Rattle.whole_commands.proofs.Saves.{saves_nothing, saves_full, saves_copy, chunk_read, stored_of, save_live}
+use Rattle.whole_commands.proofs.Keeps.{copy_keeps}
+use Rattle.whole_command_laws.proofs.PlaceRests.{place_rests}
+use Rattle.whole_commands.proofs.SavedBytes.{save_bytes}
 use Rattle.volume_commands.specs.Showing.{entry_of, saved_at, with_bytes, changed_at}
 use Rattle.volume_commands.proofs.Overflows.{save_overflow}
 use Rattle.volume_commands.proofs.Rests.{IsOrderly, IsInside, room_in}
@@ -52,7 +52,7 @@ save_number c origin s = elim (cases_Bool (not s.live || has_chunk c s)) [
   ]
 ]
 
--- a snapshot that is live after a chunk was saved was live before, and has it as `specs/Saves` of `big_steps` saves it
+-- a snapshot that is live after a chunk was saved was live before, and has it as `specs/Saves` of `whole_commands` saves it
 live_saved : (c : ℕ) (origin : Device) (s : Snap) → (save c origin s).snap.live ≡ true → (s.live ≡ true) × (stored_of (save c origin s).snap ≡ saved s.chunk origin.bytes s.store.bytes c)
 unfolding saved
 live_saved c origin s live = elim (cases_Bool s.live) [

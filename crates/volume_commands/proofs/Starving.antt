@@ -3,8 +3,8 @@ use Rattle.std.proofs.Common.{◌≡◌, ◌≢◌, inl, inr, ℕ, ◌≤◌, tr
 use Rattle.std.specs.Prelude.{IfSome}
 use Rattle.sector.specs.declared.refusal.Refusal.{Refusal}
 use Rattle.sector.specs.declared.refusal.Refusal.TheVariants.{Invalid, Overflow}
-use Rattle.big_steps.specs.Refusals.{is_starved}
-use Rattle.big_steps.proofs.Starved.{memory_starved}
+use Rattle.whole_commands.specs.Refusals.{is_starved}
+use Rattle.whole_commands.proofs.Starved.{memory_starved}
 use Rattle.device.specs.Layers.{Layer}
 use Rattle.plain_machine.specs.declared.request.Request.{Request}
 use Rattle.volume.specs.Volumed.{Volumed}

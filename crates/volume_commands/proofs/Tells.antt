@@ -8,15 +8,15 @@ use Rattle.layers.specs.declared.message.Answer.{Answer}
 use Rattle.layers.specs.declared.message.Message.{Message}
 use Rattle.layers.specs.Messages.{Told, Answered, Refused, NeedsRoom, answer_of, told}
 use Rattle.plain_machine.specs.declared.request.Dev.TheVariants.{Origin, Snap as ToSnap}
-use Rattle.big_steps.specs.Devices.{Device}
-use Rattle.big_steps.specs.Snaps.{Snap, Volume}
+use Rattle.whole_commands.specs.Devices.{Device}
+use Rattle.whole_commands.specs.Snaps.{Snap, Volume}
 use Rattle.event_machine.specs.MergeRest.{merge_in}
 use Rattle.event_machine.specs.MergeSeen.{held_in, merge_held_of}
 use Rattle.event_machine.specs.Requests.{volume_of}
-use Rattle.big_steps.specs.Merges.{Merge, Merged}
-use Rattle.big_steps.specs.MergedMoments.{store_relayered as merging_store_relayered}
+use Rattle.whole_commands.specs.Merges.{Merge, Merged}
+use Rattle.whole_commands.specs.MergedMoments.{store_relayered as merging_store_relayered}
 use Rattle.merge.specs.Merging.{Merging, due_of as merging_due}
-use Rattle.big_steps.specs.Moments.{store_relayered}
+use Rattle.whole_commands.specs.Moments.{store_relayered}
 use Rattle.snapshot.specs.Kept.{Kept}
 use Rattle.volume.specs.Volumed.{Volumed}
 use Rattle.snapshot_list.specs.Finding.{place_of_snap}

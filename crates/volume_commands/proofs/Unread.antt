@@ -6,26 +6,26 @@ use Rattle.std.proofs.lemmas.List.Elements.{All-nil, All-cons, All-head, All-tai
 use Rattle.device.specs.declared.operation.Operation.TheVariants.{Reads}
 use Rattle.device.specs.Layers.{Layer, layers_after}
 use Rattle.chunk.specs.Pieces.{Span, pieces_of}
-use Rattle.store_bytes.specs.Pairs.{pairs_of}
-use Rattle.store_bytes.specs.Picture.{place_of}
+use Rattle.cow_format.specs.Pairs.{pairs_of}
+use Rattle.cow_format.specs.Picture.{place_of}
 use Rattle.plain_machine.specs.declared.request.Dev.{Dev}
 use Rattle.plain_machine.specs.declared.request.Dev.TheVariants.{Origin, Snap as ToSnap}
 use Rattle.plain_machine.specs.declared.request.Reply.{Reply}
 use Rattle.plain_machine.specs.declared.request.Reply.TheVariants.{Data, Written, Flushed, Refused}
-use Rattle.big_steps.specs.Devices.{Device, met}
-use Rattle.big_steps.specs.Snaps.{Snap, Volume}
-use Rattle.big_steps.specs.Pieces.{Answered, read_place, read_snap, in_snap}
-use Rattle.big_steps.specs.Commands.{read_piece, read_pieces, go_on, bytes_in, read, read_first, pieces_first}
-use Rattle.big_steps.specs.Merges.{Merge, Merged, Merging, merged_of as with_merge, with_store, place_in, sector_in, read_at, read_part, read_parts, read_through, least_chunk}
+use Rattle.whole_commands.specs.Devices.{Device, met}
+use Rattle.whole_commands.specs.Snaps.{Snap, Volume}
+use Rattle.whole_commands.specs.Pieces.{Answered, read_place, read_snap, in_snap}
+use Rattle.whole_commands.specs.Commands.{read_piece, read_pieces, go_on, bytes_in, read, read_first, pieces_first}
+use Rattle.whole_commands.specs.Merges.{Merge, Merged, Merging, merged_of as with_merge, with_store, place_in, sector_in, read_at, read_part, read_parts, read_through, least_chunk}
 use Rattle.event_machine.specs.MergeRest.{merge_in}
 use Rattle.event_machine.specs.MergeSeen.{held_in}
 use Rattle.merge.specs.Merging.{Merging as MergingStack}
 use Rattle.volume.specs.Moved.{merge_seen}
-use Rattle.big_steps.specs.Beside.{served_by, read_beside, read_first_beside, read_first_through}
+use Rattle.whole_commands.specs.Beside.{served_by, read_beside, read_first_beside, read_first_through}
 use Rattle.volume_commands.specs.Rested.{Attached, Rested, snap_of, settled_of, merged_of, IsSettled}
 use Rattle.volume_commands.specs.Commands.{IsDoneBy, IsReadRefused}
 use Rattle.volume_commands.specs.Unread.{IsUnmoved, AreUnmoved}
-use Rattle.big_steps.specs.Saving.{Saving}
+use Rattle.whole_commands.specs.Saving.{Saving}
 
 met_same : (device : Device) (first count : ℕ) → IsUnmoved device → met device (Reads first count) ≡ device
 met_same device first count still = ap (λ (ls : List Layer). let d : Device = record { bytes = device.bytes; layers = ls } in d) (still first count)

@@ -6,10 +6,10 @@ use Rattle.device.specs.Layers.{Layer}
 use Rattle.chunk.specs.Pieces.{Span, span_of, pieces_of}
 use Rattle.plain_machine.specs.declared.request.Dev.{Dev}
 use Rattle.plain_machine.specs.declared.request.Reply.TheVariants.{Written}
-use Rattle.big_steps.specs.Snaps.{Volume}
-use Rattle.big_steps.specs.Commands.{write_pieces, written}
-use Rattle.big_steps.specs.Merges.{Merge, Merged, write_parts, written_through}
-use Rattle.big_steps.specs.Beside.{served_by, chunk_by, chunk_beside, written_beside, written_first_beside}
+use Rattle.whole_commands.specs.Snaps.{Volume}
+use Rattle.whole_commands.specs.Commands.{write_pieces, written}
+use Rattle.whole_commands.specs.Merges.{Merge, Merged, write_parts, written_through}
+use Rattle.whole_commands.specs.Beside.{served_by, chunk_by, chunk_beside, written_beside, written_first_beside}
 use Rattle.volume.specs.Volumed.{Volumed}
 use Rattle.volume_commands.specs.Rested.{rested_of, merged_of, IsSettled, has_dev}
 use Rattle.volume_commands.specs.Commands.{IsDoneBy, IsWriteRefused}

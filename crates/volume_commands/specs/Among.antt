@@ -13,8 +13,8 @@ use Rattle.plain_machine.specs.declared.request.Reply.{Reply}
 use Rattle.plain_machine.specs.declared.request.Reply.TheVariants.{Refused}
 use Rattle.plain_machine.specs.declared.request.Failure.{Failure}
 use Rattle.plain_machine.specs.declared.request.Request.{Request}
-use Rattle.big_steps.specs.Commands.{bytes_in}
-use Rattle.big_steps.specs.Refusals.{is_starved}
+use Rattle.whole_commands.specs.Commands.{bytes_in}
+use Rattle.whole_commands.specs.Refusals.{is_starved}
 use Rattle.volume.specs.Volumed.{Volumed, piece_with}
 use Rattle.volume.specs.Submitting.{IsAcceptedAs, IsRefusedAs}
 use Rattle.plain_machine.specs.declared.request.Replied.{Replied}

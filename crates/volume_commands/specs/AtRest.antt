@@ -18,8 +18,8 @@ use Rattle.plain_machine.specs.declared.request.Request.{Request}
 use Rattle.plain_machine.specs.Failures.{refusal_of}
 use Rattle.event_machine.specs.MergeDue.{due_all}
 use Rattle.event_machine.specs.Submitting.{submitted}
-use Rattle.big_steps.specs.Commands.{bytes_in}
-use Rattle.big_steps.specs.Refusals.{IsStarved, is_starved}
+use Rattle.whole_commands.specs.Commands.{bytes_in}
+use Rattle.whole_commands.specs.Refusals.{IsStarved, is_starved}
 use Rattle.volume.specs.Flying.{Fits}
 use Rattle.volume.specs.Leaving.{is_quiet_of}
 use Rattle.volume.specs.Moved.{moving_of}

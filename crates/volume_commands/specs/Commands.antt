@@ -1,5 +1,5 @@
 -- When a command on a device is refused, and what it leaves: this project's own. What it does where it is not refused, or
--- answers Invalid or Io, is the settled machine's (`big_steps`).
+-- answers Invalid or Io, is the settled machine's (`whole_commands`).
 use Rattle.std.specs.Prelude.{◌≡◌, ◌⊎◌, ℕ, ◌<◌, true, false, List}
 use Rattle.sector.specs.declared.refusal.Refusal.{Refusal}
 use Rattle.sector.specs.declared.refusal.Refusal.TheVariants.{NoSuchDevice}
@@ -9,12 +9,12 @@ use Rattle.plain_machine.specs.declared.request.Dev.{Dev}
 use Rattle.plain_machine.specs.declared.request.Reply.{Reply}
 use Rattle.plain_machine.specs.declared.request.Reply.TheVariants.{Data, Written, Refused}
 use Rattle.plain_machine.specs.declared.request.Failure.{Failure}
-use Rattle.big_steps.specs.Merges.{Merged}
-use Rattle.big_steps.specs.Beside.{written_beside, read_beside, flushed_beside, written_first_beside, read_first_beside, count_beside}
-use Rattle.big_steps.specs.Refusals.{is_starved}
+use Rattle.whole_commands.specs.Merges.{Merged}
+use Rattle.whole_commands.specs.Beside.{written_beside, read_beside, flushed_beside, written_first_beside, read_first_beside, count_beside}
+use Rattle.whole_commands.specs.Refusals.{is_starved}
 use Rattle.volume_commands.specs.Rested.{Rested, merged_of, IsSettled, has_dev}
 use Rattle.plain_machine.specs.Failures.{refusal_of}
-use Rattle.big_steps.specs.Pieces.{Answered}
+use Rattle.whole_commands.specs.Pieces.{Answered}
 
 -- where the volume is settled, this was done, with this reply
 abbrev pub IsDoneBy : {B : Type 0} → (B → List ℕ) → (B → List Layer) → (Merged → Answered Merged) → Reply → Rested B → Rested B → Type 0

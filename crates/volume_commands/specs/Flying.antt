@@ -2,7 +2,7 @@
 -- layers, which callers see by themselves.
 use Rattle.std.specs.Prelude.{◌≡◌, ℕ, List, [], Option, Some, None, map}
 use Rattle.device.specs.Layers.{Layer}
-use Rattle.big_steps.specs.Devices.{Device}
+use Rattle.whole_commands.specs.Devices.{Device}
 use Rattle.event_machine.specs.Held.{SnapHeld, MergeHeld, Moving, on_device}
 use Rattle.volume.specs.Volumed.{Volumed}
 use Rattle.volume.specs.Moved.{moving_of}

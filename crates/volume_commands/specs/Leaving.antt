@@ -1,7 +1,7 @@
 -- A snapshot leaves a volume between two commands. This project's own.
 use Rattle.std.specs.Prelude.{◌≡◌, ℕ, List, Some}
 use Rattle.device.specs.Layers.{Layer}
-use Rattle.big_steps.specs.Attaching.{detached, given_back}
+use Rattle.whole_commands.specs.Attaching.{detached, given_back}
 use Rattle.snapshot.specs.declared.opening.StoreDev.{StoreDev}
 use Rattle.volume.specs.Attached.{store_of}
 use Rattle.volume_commands.specs.Rested.{Attached, Rested, settled_of, merged_of, snap_at, without}

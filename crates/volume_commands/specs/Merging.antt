@@ -3,7 +3,7 @@ use Rattle.std.specs.Prelude.{◌≡◌, ◌⊎◌, ℕ, ◌<◌, true, false, L
 use Rattle.device.specs.Layers.{Layer}
 use Rattle.sector.specs.declared.refusal.Refusal.{Refusal}
 use Rattle.sector.specs.declared.refusal.Refusal.TheVariants.{JournalFull, NoMemory, NotFinished}
-use Rattle.big_steps.specs.Merges.{Merge, pairs_in}
+use Rattle.whole_commands.specs.Merges.{Merge, pairs_in}
 use Rattle.snapshot.specs.declared.opening.StoreDev.{StoreDev}
 use Rattle.merge.specs.Merging.{Merging}
 use Rattle.volume.specs.Beginning.{begin_refusal}

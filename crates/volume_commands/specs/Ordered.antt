@@ -1,10 +1,10 @@
 -- What holds of the settled machine's volume, with its merge if one is begun, where no device drops writes and nothing is in
 -- flight. This project's own.
 use Rattle.std.specs.Prelude.{◌≡◌, ℕ, ◌<◌, ◌≤◌, map, AllPairs, Some}
-use Rattle.big_steps.specs.Merges.{Merge, Merged, Merging}
-use Rattle.big_steps.specs.MergeShown.{IsMerging}
-use Rattle.big_step_laws.specs.Undone.{IsVolume}
-use Rattle.big_steps.specs.Beside.{chunk_beside}
+use Rattle.whole_commands.specs.Merges.{Merge, Merged, Merging}
+use Rattle.whole_commands.specs.MergeShown.{IsMerging}
+use Rattle.whole_command_laws.specs.Undone.{IsVolume}
+use Rattle.whole_commands.specs.Beside.{chunk_beside}
 
 -- Each snapshot has a number above those before it, the stores of live snapshots and that of a merge are in order, and no
 -- chunk is smaller than a piece.

@@ -5,8 +5,8 @@ use Rattle.device.specs.Layers.{Layer, is_loud}
 use Rattle.plain_machine.specs.declared.request.Dev.{Dev}
 use Rattle.plain_machine.specs.declared.request.Dev.TheVariants.{Origin, Snap as ToSnap}
 use Rattle.event_machine.specs.MergeRest.{merge_in}
-use Rattle.big_steps.specs.Merges.{Merged}
-use Rattle.big_steps.specs.Snaps.{Snap, SnapOn, Volume}
+use Rattle.whole_commands.specs.Merges.{Merged}
+use Rattle.whole_commands.specs.Snaps.{Snap, SnapOn, Volume}
 use Rattle.snapshot.specs.Kept.{Kept}
 use Rattle.volume.specs.Volumed.{Volumed, is_loud_with}
 use Rattle.volume.specs.Causes.{counts_with}

@@ -4,8 +4,8 @@ use Rattle.sector.specs.declared.refusal.Refusal.{Refusal}
 use Rattle.sector.specs.declared.refusal.Refusal.TheVariants.{MergeInProgress}
 use Rattle.device.specs.Layers.{Layer, is_loud}
 use Rattle.plain_machine.specs.Plain.{overflow_of}
-use Rattle.big_steps.specs.Attaching.{attached as attached_by, refused_attach}
-use Rattle.big_steps.specs.Refusals.{is_starved}
+use Rattle.whole_commands.specs.Attaching.{attached as attached_by, refused_attach}
+use Rattle.whole_commands.specs.Refusals.{is_starved}
 use Rattle.snapshot.specs.declared.opening.StoreDev.{StoreDev}
 use Rattle.volume.specs.Attached.{store_of}
 use Rattle.volume.specs.Leaving.{is_quiet_of}

@@ -3,7 +3,7 @@
 use Rattle.std.specs.Prelude.{◌≡◌, ℕ, true, List, IfErr, OnOk, Result}
 use Rattle.sector.specs.declared.refusal.Refusal.{Refusal}
 use Rattle.device.specs.Layers.{Layer}
-use Rattle.big_steps.specs.Merges.{begun as begun_by}
+use Rattle.whole_commands.specs.Merges.{begun as begun_by}
 use Rattle.volume.specs.Leaving.{is_quiet_of}
 use Rattle.volume_commands.specs.Merging.{IsBegunAs, IsNotBegun}
 use Rattle.volume_commands.specs.Rested.{Rested, merged_of, IsSettled}

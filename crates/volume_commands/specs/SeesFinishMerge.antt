@@ -3,9 +3,9 @@
 use Rattle.std.specs.Prelude.{◌≡◌, ℕ, true, false, List, IfErr, IfOk, OnErr, OnOk, Result, Some, None}
 use Rattle.sector.specs.declared.refusal.Refusal.{Refusal}
 use Rattle.device.specs.Layers.{Layer}
-use Rattle.big_steps.specs.Merges.{finished}
-use Rattle.big_steps.specs.MergeShown.{origin_shown}
-use Rattle.big_steps.specs.Refusals.{is_starved}
+use Rattle.whole_commands.specs.Merges.{finished}
+use Rattle.whole_commands.specs.MergeShown.{origin_shown}
+use Rattle.whole_commands.specs.Refusals.{is_starved}
 use Rattle.snapshot.specs.declared.opening.StoreDev.{StoreDev}
 use Rattle.volume.specs.Attached.{store_of}
 use Rattle.volume.specs.Leaving.{is_quiet_of}

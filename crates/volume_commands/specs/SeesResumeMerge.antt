@@ -3,7 +3,7 @@
 use Rattle.std.specs.Prelude.{◌≡◌, ℕ, List, OnErr, OnOk, Result, Some}
 use Rattle.sector.specs.declared.refusal.Refusal.{Refusal}
 use Rattle.device.specs.Layers.{Layer}
-use Rattle.big_steps.specs.Merges.{resumed}
+use Rattle.whole_commands.specs.Merges.{resumed}
 use Rattle.event_machine.specs.Merging.{resumed as machine_resumed}
 use Rattle.merge.specs.Merging.{Merging}
 use Rattle.volume.specs.Leaving.{is_quiet_of}

@@ -10,20 +10,20 @@ use Rattle.plain_machine.specs.declared.request.Reply.TheVariants.{Data, Written
 use Rattle.plain_machine.specs.declared.request.Failure.{Failure}
 use Rattle.chunk.specs.Sizes.{is_chunk}
 use Rattle.chunk.specs.Pieces.{Span, span_of}
-use Rattle.big_steps.specs.Commands.{bytes_in, write_piece, read_piece}
-use Rattle.big_steps.specs.Merges.{Merged, write_part, read_part}
-use Rattle.big_steps.specs.Beside.{served}
-use Rattle.big_steps.specs.Refusals.{is_starved}
+use Rattle.whole_commands.specs.Commands.{bytes_in, write_piece, read_piece}
+use Rattle.whole_commands.specs.Merges.{Merged, write_part, read_part}
+use Rattle.whole_commands.specs.Beside.{served}
+use Rattle.whole_commands.specs.Refusals.{is_starved}
 use Rattle.plain_machine.specs.declared.request.Op.{Op}
 use Rattle.plain_machine.specs.declared.request.Request.{Request}
-use Rattle.big_steps.specs.Requests.{FitsRange, answer_of}
+use Rattle.whole_commands.specs.Requests.{FitsRange, answer_of}
 use Rattle.event_machine.specs.MergeSettles.{part_of}
 use Rattle.snapshot.specs.Kept.{Kept}
 use Rattle.volume.specs.Volumed.{Volumed, piece_with}
 use Rattle.volume_commands.specs.Rested.{Rested, rested_of, merged_of, IsSettled, has_dev}
 use Rattle.plain_machine.specs.Failures.{refusal_of}
 use Rattle.volume_commands.specs.Commands.{IsDoneBy}
-use Rattle.big_steps.specs.Pieces.{Answered}
+use Rattle.whole_commands.specs.Pieces.{Answered}
 
 -- a snapshot's chunks have a size that is allowed, and are no smaller than a piece
 abbrev pub IsAsLarge : {B : Type 0} → ℕ → Kept B → Type 0

@@ -10,8 +10,8 @@ use Rattle.plain_machine.specs.declared.request.Dev.{Dev}
 use Rattle.plain_machine.specs.declared.request.Dev.TheVariants.{Origin, Snap as ToSnap}
 use Rattle.plain_machine.specs.declared.request.Overflowing.TheVariants.{May, Did}
 use Rattle.device.specs.Layers.{Layer}
-use Rattle.big_steps.specs.Snaps.{Snap, Volume, shown}
-use Rattle.big_steps.specs.Beside.{pieces_beside}
+use Rattle.whole_commands.specs.Snaps.{Snap, Volume, shown}
+use Rattle.whole_commands.specs.Beside.{pieces_beside}
 use Rattle.volume.specs.Shown.{shown_origin, shown_begun}
 use Rattle.volume_commands.specs.Rested.{Rested, merged_of, settled_of}
 

@@ -7,9 +7,9 @@ use Rattle.device.specs.Layers.{Layer}
 use Rattle.layers.specs.declared.message.Answer.{Answer}
 use Rattle.layers.specs.declared.message.Message.{Message}
 use Rattle.layers.specs.Messages.{Answered, Refused, NeedsRoom, told}
-use Rattle.big_steps.specs.Snaps.{Volume}
-use Rattle.big_steps.specs.Moments.{origin_relayered, store_relayered as snap_store_relayered}
-use Rattle.big_steps.specs.MergedMoments.{store_relayered}
+use Rattle.whole_commands.specs.Snaps.{Volume}
+use Rattle.whole_commands.specs.Moments.{origin_relayered, store_relayered as snap_store_relayered}
+use Rattle.whole_commands.specs.MergedMoments.{store_relayered}
 use Rattle.merge.specs.Merging.{Merging}
 use Rattle.volume_commands.specs.Rested.{Attached, Rested, snap_of, settled_of, merged_of}
 

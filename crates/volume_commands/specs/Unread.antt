@@ -3,8 +3,8 @@ use Rattle.std.specs.Prelude.{◌≡◌, ℕ}
 use Rattle.std.specs.List.{All}
 use Rattle.device.specs.declared.operation.Operation.TheVariants.{Reads}
 use Rattle.device.specs.Layers.{layers_after}
-use Rattle.big_steps.specs.Devices.{Device}
-use Rattle.big_steps.specs.Snaps.{Volume}
+use Rattle.whole_commands.specs.Devices.{Device}
+use Rattle.whole_commands.specs.Snaps.{Volume}
 
 -- no read changes the device's layers
 abbrev pub IsUnmoved : Device → Type 0

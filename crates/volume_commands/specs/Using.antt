@@ -2,8 +2,8 @@
 -- the store's next place and of its areas is this project's own.
 use Rattle.std.specs.Prelude.{◌≡◌, ℕ, ◌+◌, ◌*◌, ◌/◌, List, length}
 use Rattle.chunk_alloc.specs.declared.usage.Usage.{Usage}
-use Rattle.store_bytes.specs.Pairs.{pairs_of}
-use Rattle.big_steps.specs.Saves.{next_of}
+use Rattle.cow_format.specs.Pairs.{pairs_of}
+use Rattle.whole_commands.specs.Saves.{next_of}
 use Rattle.snapshot.specs.Kept.{Kept}
 use Rattle.volume_commands.specs.Rested.{Attached}
 

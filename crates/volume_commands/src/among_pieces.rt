@@ -4,7 +4,7 @@ ghost use Rattle.std.specs.Prelude.{◌≡◌, ◌⊎◌, ℕ, ◌+◌, ◌-◌,
 ghost use Rattle.plain_machine.specs.declared.request.Reply.{Reply as AnyReply};
 ghost use Rattle.plain_machine.specs.declared.request.Op.TheVariants.{Read, Write};
 ghost use Rattle.chunk.specs.Pieces.{span_of, pieces_of};
-ghost use Rattle.big_steps.specs.Commands.{bytes_in};
+ghost use Rattle.whole_commands.specs.Commands.{bytes_in};
 ghost use Rattle.volume.specs.Volumed.{piece_with};
 ghost use Rattle.volume_commands.specs.Among.{AreReadAmong, AreWrittenAmong, IsPieceFailed, IsPieceServed, IsReadRefusedAmong, IsReadStopped, IsWriteRefusedAmong, IsWriteStopped, pieces_among};
 ghost use Rattle.counted_volume.specs.TakesPlaces.{TakesByRequests};

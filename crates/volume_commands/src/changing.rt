@@ -14,7 +14,7 @@ ghost use Rattle.volume_commands.specs.SeesDetach.{SeesDetach};
 ghost use Rattle.counted_volume.specs.Places.{kept_for_snaps};
 ghost use Rattle.volume_commands.specs.Recorded.{counted_in};
 ghost use Rattle.counted_volume.specs.TakesPlaces.{TakesPlaces, reason_of};
-ghost use Rattle.audit.specs.PlacesTaken.{places_for};
+ghost use Rattle.audited_volume.specs.PlacesTaken.{places_for};
 ghost use Rattle.volume_commands.specs.Recording.{AreWhole, TakesForSnaps};
 
 use crate::Resting;

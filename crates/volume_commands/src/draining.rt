@@ -2,7 +2,7 @@
 ghost use Rattle.std.specs.Prelude.{◌≡◌, ◌+◌, ◌≤◌, length, vec_capacity, vec_len, is_ok, IfErr, OnOk, true, None};
 ghost use Rattle.sector.specs.declared.refusal.Refusal.TheVariants.{NoMemory};
 ghost use Rattle.volume.specs.Leaving.{is_quiet_of};
-ghost use Rattle.big_steps.specs.Merges.{merged};
+ghost use Rattle.whole_commands.specs.Merges.{merged};
 ghost use Rattle.volume_commands.specs.Rested.{rested_of, merged_of, IsSettled};
 ghost use Rattle.volume_commands.specs.Showing.{arrays_in, IsGoneOn};
 ghost use Rattle.volume_commands.specs.Draining.{IsDrained, IsDrainedApart, IsAnsweredAmong};

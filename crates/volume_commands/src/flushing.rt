@@ -5,7 +5,7 @@ ghost use Rattle.plain_machine.specs.declared.request.Reply.TheVariants.{Flushed
 ghost use Rattle.volume.specs.Leaving.{is_quiet_of};
 ghost use Rattle.volume.specs.Stopping.{array_of};
 ghost use Rattle.volume.specs.Volumed.{is_loud_in_all};
-ghost use Rattle.big_steps.specs.Beside.{flushed_beside};
+ghost use Rattle.whole_commands.specs.Beside.{flushed_beside};
 ghost use Rattle.volume_commands.specs.Rested.{has_dev, rested_of, IsSettled};
 ghost use Rattle.volume_commands.specs.Between.{IsBetween};
 ghost use Rattle.volume_commands.specs.Closing.{IsClosed};

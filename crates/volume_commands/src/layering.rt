@@ -1,7 +1,7 @@
 // The layers of a volume's devices, which know of time.
 ghost use Rattle.std.specs.Prelude.{◌≡◌};
 ghost use Rattle.layers.specs.Ticks.{layers_ticked};
-ghost use Rattle.big_steps.specs.MergedMoments.{merged_relayered};
+ghost use Rattle.whole_commands.specs.MergedMoments.{merged_relayered};
 ghost use Rattle.volume_commands.specs.ChangesLayers.{ChangesLayers};
 ghost use Rattle.volume_commands.specs.Rested.{merged_of};
 

@@ -2,7 +2,7 @@
 //! are due are done, the one that is due first, until none is. Requests may also be started, and be in flight between commands:
 //! their replies come with the command in which they end, each in the order of the events. A flush of a device is one request.
 //!
-//! It stands on `counted_volume`, whose events it does, on `big_step_laws`, which has the laws by which those events settle, and on
+//! It stands on `counted_volume`, whose events it does, on `whole_command_laws`, which has the laws by which those events settle, and on
 //! `layers`, whose time and messages it passes on. It promises that each command on a settled volume is the settled machine's
 //! one big step over the devices' own bytes and layers, and leaves it settled; that time and messages change layers alone;
 //! and that the numbers of a status line are those of a store's own bytes. A new volume is settled where its disk drops no

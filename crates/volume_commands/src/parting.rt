@@ -4,13 +4,13 @@ ghost use Rattle.sector.specs.declared.refusal.Refusal.TheVariants.{NoMemory};
 ghost use Rattle.volume.specs.Volumed.{is_loud_in_all};
 ghost use Rattle.volume_commands.specs.Flying.{IsWhole};
 ghost use Rattle.volume_commands.specs.Rested.{rested_of};
-ghost use Rattle.audit.specs.PlacesTaken.{places_of};
-ghost use Rattle.audit.specs.Noted.{kept_count, mays_of};
+ghost use Rattle.audited_volume.specs.PlacesTaken.{places_of};
+ghost use Rattle.audited_volume.specs.Noted.{kept_count, mays_of};
 ghost use Rattle.volume.specs.Causes.{lives_of};
 ghost use Rattle.counted_volume.specs.Places.{kept_for_marks, kept_free};
 
 use crate::Resting;
-use audit::Audit;
+use audited_volume::Audit;
 use counted_volume::CountedVolume;
 use layers::Layered;
 use plain_machine::ReqId;

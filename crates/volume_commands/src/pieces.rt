@@ -7,8 +7,8 @@ ghost use Rattle.plain_machine.specs.declared.request.Op.TheVariants.{Read, Writ
 ghost use Rattle.chunk.specs.Pieces.{pieces_of, span_of};
 ghost use Rattle.volume.specs.Lent.{is_bare};
 ghost use Rattle.volume.specs.Volumed.{piece_with};
-ghost use Rattle.big_steps.specs.Beside.{written_beside, read_beside};
-ghost use Rattle.big_steps.specs.Commands.{bytes_in};
+ghost use Rattle.whole_commands.specs.Beside.{written_beside, read_beside};
+ghost use Rattle.whole_commands.specs.Commands.{bytes_in};
 ghost use Rattle.volume_commands.specs.AtRest.{AreReadAtRest, AreWrittenAtRest, IsPieceAnswered, IsPieceUndone, IsReadUndone, IsWriteCut};
 ghost use Rattle.volume_commands.specs.Serving.{part_written, part_read, CanAsk, CanServe, IsPieceDone, IsPieceRead, IsPieceRefused};
 ghost use Rattle.volume_commands.specs.Rested.{rested_of, IsSettled};

@@ -6,8 +6,8 @@ ghost use Rattle.plain_machine.specs.declared.request.Reply.TheVariants.{Data, W
 ghost use Rattle.chunk.specs.Pieces.{span_of};
 ghost use Rattle.volume.specs.Layering.{Measures};
 ghost use Rattle.volume.specs.Leaving.{is_quiet_of};
-ghost use Rattle.volume_history.specs.Life.{HasLife};
-ghost use Rattle.big_steps.specs.Beside.{written_beside, read_beside};
+ghost use Rattle.volume_lifetime.specs.Life.{HasLife};
+ghost use Rattle.whole_commands.specs.Beside.{written_beside, read_beside};
 ghost use Rattle.volume_commands.specs.Rested.{has_dev, rested_of, IsSettled};
 ghost use Rattle.volume_commands.specs.Among.{pieces_among};
 ghost use Rattle.volume_commands.specs.AtRest.{AreReadAtRest, AreWrittenAtRest, IsReadUndone, IsWriteCut};

@@ -3,7 +3,7 @@ ghost use Rattle.std.specs.Prelude.{◌≡◌, ℕ, ◌≤◌, length, Option, N
 ghost use Rattle.plain_machine.specs.declared.request.Dev.TheVariants.{Origin};
 ghost use Rattle.plain_machine.specs.declared.request.Op.TheVariants.{Write};
 ghost use Rattle.plain_machine.specs.declared.request.Reply.{Reply};
-ghost use Rattle.big_steps.specs.Refusals.{is_starved};
+ghost use Rattle.whole_commands.specs.Refusals.{is_starved};
 ghost use Rattle.event_machine.specs.Due.{due};
 ghost use Rattle.volume.specs.Volumed.{next_of};
 ghost use Rattle.volume.specs.Moved.{moving_of};

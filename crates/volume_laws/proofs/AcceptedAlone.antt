@@ -1,7 +1,7 @@
 -- A request is in flight, once its copies are started, in a volume without a merge.
 use Rattle.std.proofs.Common.{◌≡◌, ◌≢◌, ℕ, ◌<◌, true, false, List, Option, Some, None, length, get_or, sym, ◌∙◌, ap}
 use Rattle.std.specs.List.{All}
-use Rattle.store_bytes.specs.Picture.{place_of}
+use Rattle.cow_format.specs.Picture.{place_of}
 use Rattle.plain_machine.specs.Kept.{kept}
 use Rattle.plain_machine.specs.Plain.{did_overflow}
 use Rattle.in_flight.specs.Kinds.{kind_of}

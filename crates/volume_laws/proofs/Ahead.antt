@@ -7,8 +7,8 @@ use Rattle.std.specs.List.{All, Any, list_any, list_all}
 use Rattle.std.proofs.lemmas.List.{get_or_default}
 use Rattle.sector.specs.Bytes.{sectors_at}
 use Rattle.sector.specs.declared.pair.Pair.{Pair}
-use Rattle.store_bytes.specs.Pairs.{pairs_of}
-use Rattle.store_bytes.specs.Picture.{IsCopied}
+use Rattle.cow_format.specs.Pairs.{pairs_of}
+use Rattle.cow_format.specs.Picture.{IsCopied}
 use Rattle.in_flight.specs.Copies.{count_of}
 use Rattle.in_flight.specs.declared.flights.Flight.{Flight}
 use Rattle.volume_laws.specs.Books.{Books, SnapBooks, MergeBooks, number_of}

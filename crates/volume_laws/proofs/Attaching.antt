@@ -6,9 +6,9 @@ use Rattle.std.proofs.lemmas.Bool.{false≢true}
 use Rattle.std.proofs.lemmas.List.{map_push, ext_get_or, length-map}
 use Rattle.std.proofs.lemmas.List.Elements.{All-push, All-nil}
 use Rattle.std.proofs.lemmas.List.Quantifiers.{all_pairs_push, all_pairs_remove}
-use Rattle.store_bytes.specs.Pairs.{pairs_of}
-use Rattle.store_bytes.specs.Picture.{picture, picture_at}
-use Rattle.store_bytes.proofs.Pictures.{length-picture, get_or-picture}
+use Rattle.cow_format.specs.Pairs.{pairs_of}
+use Rattle.cow_format.specs.Picture.{picture, picture_at}
+use Rattle.cow_format.proofs.Pictures.{length-picture, get_or-picture}
 use Rattle.plain_machine.specs.Legal.{IsTaken, IsDetached}
 use Rattle.in_flight.specs.Copies.{pair_of}
 use Rattle.in_flight.specs.Kinds.{in_flight}

@@ -6,7 +6,7 @@ use Rattle.std.proofs.lemmas.Nat.{mod_below, div-add-mod', div-mul-add}
 use Rattle.std.proofs.lemmas.List.{ext_get_or}
 use Rattle.sector.specs.Bytes.{sectors_at}
 use Rattle.sector.proofs.Sectors.{byte_read}
-use Rattle.store_bytes.proofs.AreaPlaces.{chunks_apart}
+use Rattle.cow_format.proofs.AreaPlaces.{chunks_apart}
 use Rattle.volume_laws.specs.Steps.{WritesDisk}
 
 pub byte_in : (chunk i : ℕ) → i ≡ 512 * (chunk * (i / (512 * chunk))) + i % (512 * chunk)

@@ -7,11 +7,11 @@ use Rattle.std.proofs.Math.Seq.{take-append-add}
 use Rattle.std.proofs.lemmas.List.{get_or_default, get_or-append-add, take-map, drop-map, take-append-drop, get_or-take, length-take-le}
 use Rattle.std.proofs.lemmas.List.Elements.{All-weaker, All-append, All-take, All-drop, All-map}
 use Rattle.sector.specs.declared.pair.Pair.{Pair}
-use Rattle.store_bytes.specs.Places.{area_place, is_area_place, ChangesOnly}
-use Rattle.store_bytes.specs.Pairs.{IsApart, IsInside}
-use Rattle.store_bytes.specs.Picture.{place_of, byte_of, picture_at, picture, IsCopied}
-use Rattle.store_bytes.proofs.AreaPlaces.{place_is}
-use Rattle.store_bytes.proofs.Views.{picture-commit, picture-only, picture-more, place_unnamed, place_none}
+use Rattle.cow_format.specs.Places.{area_place, is_area_place, ChangesOnly}
+use Rattle.cow_format.specs.Pairs.{IsApart, IsInside}
+use Rattle.cow_format.specs.Picture.{place_of, byte_of, picture_at, picture, IsCopied}
+use Rattle.cow_format.proofs.AreaPlaces.{place_is}
+use Rattle.cow_format.proofs.Views.{picture-commit, picture-only, picture-more, place_unnamed, place_none}
 use Rattle.in_flight.specs.Copies.{pair_of}
 use Rattle.in_flight.specs.declared.copies.ChunkCopy.{ChunkCopy}
 use Rattle.in_flight.specs.declared.copies.Mark.{Mark}

@@ -9,10 +9,10 @@ use Rattle.std.proofs.Math.Seq.{map-set_same}
 use Rattle.sector.specs.Bytes.{sectors_at, with_sectors}
 use Rattle.sector.specs.declared.pair.Pair.{Pair}
 use Rattle.sector.proofs.Sectors.{sectors_at-with_same}
-use Rattle.store_bytes.specs.Places.{ChangesOnly}
-use Rattle.store_bytes.specs.Picture.{picture, IsCopied}
-use Rattle.store_bytes.proofs.Pictures.{front_copied}
-use Rattle.store_bytes.proofs.Slots.{pairs-outside}
+use Rattle.cow_format.specs.Places.{ChangesOnly}
+use Rattle.cow_format.specs.Picture.{picture, IsCopied}
+use Rattle.cow_format.proofs.Pictures.{front_copied}
+use Rattle.cow_format.proofs.Slots.{pairs-outside}
 use Rattle.in_flight.specs.Copies.{count_of, pair_of}
 use Rattle.in_flight.specs.declared.copies.ChunkCopy.{ChunkCopy}
 use Rattle.in_flight.specs.declared.copies.Stage.TheVariants.{Waiting, Read, Written}

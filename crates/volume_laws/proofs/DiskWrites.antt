@@ -3,8 +3,8 @@ use Rattle.std.specs.Prelude.{◌&&◌}
 use Rattle.std.proofs.Common.{Bool, ◌≡◌, ◌≢◌, ℕ, ◌+◌, ◌*◌, ◌/◌, ◌<◌, true, List, Option, Some, None, get_or, refl, sym, ◌∙◌, ap, arith}
 use Rattle.std.specs.List.{All}
 use Rattle.std.proofs.lemmas.List.{get_or_default}
-use Rattle.store_bytes.specs.Picture.{place_of, byte_of, picture_at, picture}
-use Rattle.store_bytes.proofs.Pictures.{same_picture}
+use Rattle.cow_format.specs.Picture.{place_of, byte_of, picture_at, picture}
+use Rattle.cow_format.proofs.Pictures.{same_picture}
 use Rattle.in_flight.specs.Copies.{count_of}
 use Rattle.in_flight.specs.declared.flights.Flight.{Flight}
 use Rattle.volume_laws.specs.Books.{SnapBooks}

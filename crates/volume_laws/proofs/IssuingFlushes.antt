@@ -8,7 +8,7 @@ use Rattle.std.proofs.lemmas.List.{map-set, length-map, get_or-map, length-set, 
 use Rattle.std.proofs.lemmas.List.Elements.{All-set}
 use Rattle.std.proofs.lemmas.List.Sums.{sum_by-set}
 use Rattle.std.proofs.Math.Seq.{map-set_same}
-use Rattle.store_bytes.specs.Picture.{picture}
+use Rattle.cow_format.specs.Picture.{picture}
 use Rattle.plain_machine.specs.declared.request.Dev.TheVariants.{Snap}
 use Rattle.plain_machine.specs.declared.request.Op.TheVariants.{Flush}
 use Rattle.plain_machine.specs.declared.request.Reply.TheVariants.{Flushed}

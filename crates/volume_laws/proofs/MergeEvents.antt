@@ -5,12 +5,12 @@ use Rattle.std.specs.Prelude.{AllPairs}
 use Rattle.std.proofs.lemmas.List.Elements.{All-head, All-cons, All-nil, All-append}
 use Rattle.sector.specs.Bytes.{sectors_at}
 use Rattle.sector.specs.declared.pair.Pair.{Pair}
-use Rattle.store_bytes.specs.Places.{area_place, is_area_place, ChangesOnly}
-use Rattle.store_bytes.specs.Pairs.{pairs_of, IsApart, IsInside}
-use Rattle.store_bytes.specs.Picture.{place_of, picture_at, picture, IsCopied}
-use Rattle.store_bytes.proofs.AreaPlaces.{place_is}
-use Rattle.store_bytes.proofs.Pictures.{picture-origin, same_picture, front_copied}
-use Rattle.store_bytes.proofs.Views.{place_unnamed, picture-merged}
+use Rattle.cow_format.specs.Places.{area_place, is_area_place, ChangesOnly}
+use Rattle.cow_format.specs.Pairs.{pairs_of, IsApart, IsInside}
+use Rattle.cow_format.specs.Picture.{place_of, picture_at, picture, IsCopied}
+use Rattle.cow_format.proofs.AreaPlaces.{place_is}
+use Rattle.cow_format.proofs.Pictures.{picture-origin, same_picture, front_copied}
+use Rattle.cow_format.proofs.Views.{place_unnamed, picture-merged}
 use Rattle.in_flight.specs.Copies.{count_of}
 use Rattle.in_flight.specs.Kinds.{kind_of}
 use Rattle.in_flight.specs.declared.flights.Flight.{Flight}

@@ -5,12 +5,12 @@ use Rattle.sector.specs.Bytes.{sectors_at, with_sectors}
 use Rattle.sector.specs.declared.pair.Pair.{Pair}
 use Rattle.sector.specs.declared.range.Range.{Range}
 use Rattle.sector.proofs.Sectors.{byte_read}
-use Rattle.store_bytes.specs.Places.{is_area_place, ChangesOnly}
-use Rattle.store_bytes.specs.Pairs.{pairs_of, IsApart, IsInside}
-use Rattle.store_bytes.specs.Picture.{place_of, byte_of, picture_at, picture, IsCopied}
-use Rattle.store_bytes.proofs.Pictures.{length-picture, get_or-picture, picture-written}
-use Rattle.store_bytes.proofs.Slots.{pairs-outside}
-use Rattle.store_bytes.proofs.Views.{picture-more}
+use Rattle.cow_format.specs.Places.{is_area_place, ChangesOnly}
+use Rattle.cow_format.specs.Pairs.{pairs_of, IsApart, IsInside}
+use Rattle.cow_format.specs.Picture.{place_of, byte_of, picture_at, picture, IsCopied}
+use Rattle.cow_format.proofs.Pictures.{length-picture, get_or-picture, picture-written}
+use Rattle.cow_format.proofs.Slots.{pairs-outside}
+use Rattle.cow_format.proofs.Views.{picture-more}
 use Rattle.in_flight.specs.Copies.{count_of}
 use Rattle.in_flight.specs.declared.flights.Flight.{Flight}
 use Rattle.volume_laws.specs.Books.{MergeBooks, listed, taken}

@@ -4,8 +4,8 @@ use Rattle.std.proofs.Common.{◌≡◌, ℕ, ◌*◌, ◌<◌, ◌≤◌, true,
 use Rattle.std.specs.List.{All}
 use Rattle.sector.specs.Bytes.{sectors_at}
 use Rattle.sector.specs.declared.pair.Pair.{Pair}
-use Rattle.store_bytes.specs.Places.{area_place, ChangesOnly}
-use Rattle.store_bytes.specs.Pairs.{pairs_of}
+use Rattle.cow_format.specs.Places.{area_place, ChangesOnly}
+use Rattle.cow_format.specs.Pairs.{pairs_of}
 use Rattle.in_flight.specs.Copies.{count_of}
 use Rattle.volume_laws.specs.Books.{SnapBooks, MergeBooks, Books}
 use Rattle.volume_laws.specs.Published.{is_clear}

@@ -1,7 +1,7 @@
 -- A write finds the full store of a snapshot that may overflow, in a whole volume: it is marked, and all else stays.
 use Rattle.std.proofs.Common.{◌≡◌, ℕ, true, Some, set, map, refl, sym, ◌∙◌, ap, subst}
 use Rattle.std.proofs.lemmas.List.{map-set}
-use Rattle.store_bytes.specs.Picture.{picture}
+use Rattle.cow_format.specs.Picture.{picture}
 use Rattle.plain_machine.specs.declared.request.Overflowing.TheVariants.{Did}
 use Rattle.plain_machine.specs.Legal.{Overflows as PlainOverflows}
 use Rattle.in_flight.specs.Kinds.{in_flight}

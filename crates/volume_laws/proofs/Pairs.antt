@@ -5,8 +5,8 @@ use Rattle.std.specs.Prelude.{AllPairs}
 use Rattle.std.proofs.lemmas.Bool.{cases_Bool, eqb-true, eqb-false}
 use Rattle.std.proofs.lemmas.List.Elements.{All-head, All-tail, All-cons, All-nil, All-weaker}
 use Rattle.sector.specs.declared.pair.Pair.{Pair}
-use Rattle.store_bytes.specs.Pairs.{IsApart}
-use Rattle.store_bytes.specs.Picture.{place_of}
+use Rattle.cow_format.specs.Pairs.{IsApart}
+use Rattle.cow_format.specs.Picture.{place_of}
 use Rattle.volume_laws.proofs.Lists.{All-back, AllPairs-head, AllPairs-tail}
 
 -- what is true of all pairs is true of the one that a look-up finds

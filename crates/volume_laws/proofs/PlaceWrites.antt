@@ -6,10 +6,10 @@ use Rattle.std.proofs.lemmas.Nat.{div-add-mod'}
 use Rattle.sector.specs.Bytes.{sectors_at, with_sectors}
 use Rattle.sector.specs.declared.pair.Pair.{Pair}
 use Rattle.sector.proofs.Sectors.{byte_outside, byte_inside, sectors_at-with_same}
-use Rattle.store_bytes.specs.Places.{ChangesOnly}
-use Rattle.store_bytes.specs.Pairs.{pairs_of, IsApart}
-use Rattle.store_bytes.specs.Picture.{place_of, byte_of, picture_at, picture}
-use Rattle.store_bytes.proofs.Pictures.{picture-written, picture-write, picture_with, with_sectors-is, length-picture, get_or-picture}
+use Rattle.cow_format.specs.Places.{ChangesOnly}
+use Rattle.cow_format.specs.Pairs.{pairs_of, IsApart}
+use Rattle.cow_format.specs.Picture.{place_of, byte_of, picture_at, picture}
+use Rattle.cow_format.proofs.Pictures.{picture-written, picture-write, picture_with, with_sectors-is, length-picture, get_or-picture}
 use Rattle.volume_laws.specs.Steps.{WritesDisk}
 use Rattle.volume_laws.proofs.Bytes.{byte_chunk, piece_low}
 

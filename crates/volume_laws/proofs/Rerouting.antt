@@ -10,7 +10,7 @@ use Rattle.in_flight.specs.declared.flights.Kind.{Kind}
 use Rattle.in_flight.specs.declared.flights.Kind.TheVariants.{OriginRead, OriginWrite, OriginFlush, SnapRead, SnapWrite, SnapFlush}
 use Rattle.in_flight.specs.declared.flights.Route.{Route}
 use Rattle.in_flight.specs.declared.flights.Route.TheVariants.{Held, Origin, Store, Whole, Refused}
-use Rattle.store_bytes.specs.Picture.{place_of, picture}
+use Rattle.cow_format.specs.Picture.{place_of, picture}
 use Rattle.volume_laws.specs.Books.{SnapBooks, MergeBooks, Books, listed, taken, group_of}
 use Rattle.volume_laws.specs.Published.{chunk_of, IsPublished, IsSaved, is_clear}
 use Rattle.volume_laws.specs.Held.{SnapHolds, RouteHolds, RefusedHolds, UntriedHolds, RequestHolds}

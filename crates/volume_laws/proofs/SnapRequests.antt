@@ -8,12 +8,12 @@ use Rattle.sector.specs.Bytes.{sectors_at, with_sectors}
 use Rattle.sector.specs.declared.pair.Pair.{Pair}
 use Rattle.sector.specs.declared.range.Range.{Range}
 use Rattle.sector.proofs.Sectors.{byte_read, byte_outside, sectors_at-with_same}
-use Rattle.store_bytes.specs.Places.{is_area_place}
-use Rattle.store_bytes.specs.Pairs.{pairs_of, IsApart, IsInside}
-use Rattle.store_bytes.specs.Picture.{place_of, byte_of, picture_at, picture}
-use Rattle.store_bytes.proofs.Pictures.{length-picture, get_or-picture, picture-written, picture-write, picture_with}
-use Rattle.store_bytes.proofs.Slots.{pairs-outside}
-use Rattle.store_bytes.proofs.AreaPlaces.{chunks_apart}
+use Rattle.cow_format.specs.Places.{is_area_place}
+use Rattle.cow_format.specs.Pairs.{pairs_of, IsApart, IsInside}
+use Rattle.cow_format.specs.Picture.{place_of, byte_of, picture_at, picture}
+use Rattle.cow_format.proofs.Pictures.{length-picture, get_or-picture, picture-written, picture-write, picture_with}
+use Rattle.cow_format.proofs.Slots.{pairs-outside}
+use Rattle.cow_format.proofs.AreaPlaces.{chunks_apart}
 use Rattle.in_flight.specs.declared.flights.Flight.{Flight}
 use Rattle.volume_laws.proofs.Heard.{store_loud}
 use Rattle.volume_laws.specs.Books.{SnapBooks}

@@ -7,7 +7,7 @@ use Rattle.std.proofs.lemmas.List.{map-set, length-map, get_or-map, length-set, 
 use Rattle.plain_machine.specs.Plain.{Entry, is_in, spoiled_entry}
 use Rattle.in_flight.specs.Kinds.{in_flight}
 use Rattle.in_flight.specs.Routes.{refused_of}
-use Rattle.store_bytes.specs.Picture.{picture}
+use Rattle.cow_format.specs.Picture.{picture}
 use Rattle.volume_laws.specs.Books.{SnapBooks, Books, number_of}
 use Rattle.volume_laws.specs.Held.{SnapHolds, UntriedHolds}
 use Rattle.volume_laws.specs.Whole.{Holds, plain_of, entry_of, origin_of, begun_of}

@@ -7,11 +7,11 @@ use Rattle.std.proofs.lemmas.Nat.{mod_below}
 use Rattle.std.proofs.lemmas.List.{get_or_append_left, get_or-append-add, get_or-map, length-map}
 use Rattle.std.proofs.lemmas.List.Elements.{All-weaker}
 use Rattle.sector.specs.declared.pair.Pair.{Pair}
-use Rattle.store_bytes.specs.Places.{area_place, ChangesOnly}
-use Rattle.store_bytes.specs.Pairs.{pairs_of, IsApart, IsInside}
-use Rattle.store_bytes.specs.Picture.{place_of, picture_at, picture, IsCopied}
-use Rattle.store_bytes.proofs.Pictures.{same_picture}
-use Rattle.store_bytes.proofs.Views.{byte_same, picture-only, place_unnamed}
+use Rattle.cow_format.specs.Places.{area_place, ChangesOnly}
+use Rattle.cow_format.specs.Pairs.{pairs_of, IsApart, IsInside}
+use Rattle.cow_format.specs.Picture.{place_of, picture_at, picture, IsCopied}
+use Rattle.cow_format.proofs.Pictures.{same_picture}
+use Rattle.cow_format.proofs.Views.{byte_same, picture-only, place_unnamed}
 use Rattle.in_flight.specs.Copies.{pair_of}
 use Rattle.in_flight.specs.declared.copies.ChunkCopy.{ChunkCopy}
 use Rattle.in_flight.specs.declared.copies.Mark.{Mark}

@@ -8,9 +8,9 @@ use Rattle.std.proofs.lemmas.List.{length-map}
 use Rattle.std.proofs.lemmas.Nat.{div-add-mod'}
 use Rattle.sector.specs.Bytes.{sectors_at, with_sectors}
 use Rattle.sector.specs.declared.pair.Pair.{Pair}
-use Rattle.store_bytes.specs.Places.{area_place, ChangesOnly}
-use Rattle.store_bytes.specs.Pairs.{pairs_of}
-use Rattle.store_bytes.specs.Picture.{picture}
+use Rattle.cow_format.specs.Places.{area_place, ChangesOnly}
+use Rattle.cow_format.specs.Pairs.{pairs_of}
+use Rattle.cow_format.specs.Picture.{picture}
 use Rattle.plain_machine.specs.declared.request.Dev.TheVariants.{Origin as AtOrigin}
 use Rattle.plain_machine.specs.declared.request.Op.TheVariants.{Read, Write}
 use Rattle.plain_machine.specs.declared.request.Reply.TheVariants.{Data, Written as IsWritten}

@@ -6,7 +6,7 @@ use Rattle.std.proofs.lemmas.Bool.{false≢true, cases_Bool}
 use Rattle.std.proofs.lemmas.List.{map-set, length-map, get_or-map}
 use Rattle.std.proofs.lemmas.List.Elements.{All-set}
 use Rattle.std.proofs.Math.Seq.{map-set_same}
-use Rattle.store_bytes.specs.Picture.{picture}
+use Rattle.cow_format.specs.Picture.{picture}
 use Rattle.plain_machine.specs.declared.request.Overflowing.{Overflowing}
 use Rattle.plain_machine.specs.Plain.{Plain, Entry, Live, Invalid, spoiled_entry}
 use Rattle.plain_machine.specs.Legal.{Spoils}

@@ -11,7 +11,7 @@ use Rattle.in_flight.specs.declared.flights.Route.TheVariants.{Held, Origin, Sto
 use Rattle.volume_laws.specs.Again.{has_chunk, new_route}
 use Rattle.volume_laws.specs.Books.{MergeBooks, group_of}
 use Rattle.volume_laws.specs.Published.{chunk_of}
-use Rattle.store_bytes.specs.Picture.{place_of}
+use Rattle.cow_format.specs.Picture.{place_of}
 
 write_whole : (grouped : Bool) (place : Option ℕ) (clear : Bool) → write_route_of grouped place clear ≢ Whole
 write_whole true place clear e = cc

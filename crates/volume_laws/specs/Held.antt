@@ -3,8 +3,8 @@ use Rattle.std.specs.Prelude.{◌≡◌, ◌≢◌, ◌&&◌, ℕ, ◌+◌, ◌*
 use Rattle.std.specs.List.{All}
 use Rattle.sector.specs.Bytes.{sectors_at}
 use Rattle.sector.specs.declared.pair.Pair.{Pair}
-use Rattle.store_bytes.specs.Pairs.{pairs_of, IsApart, IsInside}
-use Rattle.store_bytes.specs.Picture.{place_of, picture_at, IsCopied}
+use Rattle.cow_format.specs.Pairs.{pairs_of, IsApart, IsInside}
+use Rattle.cow_format.specs.Picture.{place_of, picture_at, IsCopied}
 use Rattle.plain_machine.specs.declared.request.Op.TheVariants.{Write, Flush}
 use Rattle.in_flight.specs.Copies.{count_of, pair_of}
 use Rattle.in_flight.specs.Kinds.{kind_of, room_of}

@@ -6,7 +6,7 @@ use Rattle.std.specs.List.{All, list_any, list_all}
 use Rattle.std.specs.Option.{is_some, unwrap_or}
 use Rattle.sector.specs.declared.pair.Pair.{Pair}
 use Rattle.sector.specs.declared.range.Range.{Range}
-use Rattle.store_bytes.specs.Picture.{place_of}
+use Rattle.cow_format.specs.Picture.{place_of}
 use Rattle.chunk.specs.Pieces.{chunks_over}
 use Rattle.in_flight.specs.Due.{first_by}
 use Rattle.in_flight.specs.declared.copies.Mark.{Mark}

@@ -3,8 +3,8 @@
 use Rattle.std.specs.Prelude.{◌≡◌, ◌≢◌, ◌==◌, ◌⊎◌, ℕ, ◌+◌, ◌*◌, ◌/◌, ◌%◌, ◌<◌, ◌≤◌, true, false, List, [], ◌∷◌, ◌++◌, Option, Some, None, length, map, take, drop, slice_index, slice_index_or, slice_set}
 use Rattle.std.specs.List.{All, remove, position}
 use Rattle.sector.specs.Bytes.{sectors_at, with_sectors}
-use Rattle.store_bytes.specs.Places.{area_place, ChangesOnly}
-use Rattle.store_bytes.specs.Pairs.{pairs_of}
+use Rattle.cow_format.specs.Places.{area_place, ChangesOnly}
+use Rattle.cow_format.specs.Pairs.{pairs_of}
 use Rattle.in_flight.specs.Copies.{count_of}
 use Rattle.in_flight.specs.Flushed.{flushed_copy, safe_mark}
 use Rattle.in_flight.specs.Routes.{refused_of}

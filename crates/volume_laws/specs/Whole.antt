@@ -1,7 +1,7 @@
 -- A whole volume: what holds of it, and the plain machine that its devices' bytes stand for.
 use Rattle.std.specs.Prelude.{◌≡◌, ◌≢◌, ℕ, ◌*◌, true, List, Option, Some, None, length, map, AllPairs, if◌then◌else◌}
 use Rattle.std.specs.List.{All}
-use Rattle.store_bytes.specs.Picture.{picture}
+use Rattle.cow_format.specs.Picture.{picture}
 use Rattle.plain_machine.specs.Plain.{Plain, Entry, Live, Invalid}
 use Rattle.in_flight.specs.Kinds.{kind_of, in_flight}
 use Rattle.in_flight.specs.declared.flights.Flight.{Flight}

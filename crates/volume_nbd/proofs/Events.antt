@@ -4,15 +4,15 @@ use Rattle.sector.specs.Bytes.{sector_at}
 use Rattle.device.specs.Layers.{Layer}
 use Rattle.plain_machine.specs.declared.event.Event.{Event}
 use Rattle.plain_machine.specs.declared.event.Outcome.{Outcome}
-use Rattle.served_array.specs.declared.array.Stepped.{Stepped}
+use Rattle.nbd_backend.specs.declared.array.Stepped.{Stepped}
 use Rattle.plain_machine.specs.declared.request.Dev.{Dev}
 use Rattle.volume.specs.DoesAhead.{DoesAhead}
 use Rattle.volume.specs.DoesStep.{DoesStep}
 use Rattle.volume.specs.Lasting.{IsKept}
 use Rattle.volume.specs.Volumed.{Volumed, is_due_of, is_loud_in_all, plain_of}
 use Rattle.volume.proofs.Aheads.{kept_ahead}
-use Rattle.saving_laws.proofs.Aheads.{ahead_saves}
-use Rattle.saving_laws.proofs.Events.{event_saves}
+use Rattle.copy_before_write_laws.proofs.Aheads.{ahead_saves}
+use Rattle.copy_before_write_laws.proofs.Events.{event_saves}
 use Rattle.volume_nbd.specs.Answers.{stepped_as}
 use Rattle.volume_nbd.specs.Faults.{is_failed_at}
 use Rattle.volume_nbd.specs.Looked.{IsLookedAt}

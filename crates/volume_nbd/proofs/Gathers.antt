@@ -2,8 +2,8 @@
 use Rattle.std.proofs.Common.{◌≡◌, ◌≢◌, ℕ, List, refl}
 use Rattle.std.specs.List.{flat_map}
 use Rattle.device.specs.Layers.{Layer}
-use Rattle.event_rounds.specs.declared.rounds.Batch.{Batch}
-use Rattle.event_rounds.specs.declared.rounds.Batch.TheVariants.{Issues, Reads, Writes, Flushes, Publications, MoreIssues, Marks, Zeros, Areas}
+use Rattle.group_commit.specs.declared.rounds.Batch.{Batch}
+use Rattle.group_commit.specs.declared.rounds.Batch.TheVariants.{Issues, Reads, Writes, Flushes, Publications, MoreIssues, Marks, Zeros, Areas}
 use Rattle.volume.specs.Volumed.{Volumed, is_due_of}
 use Rattle.volume_nbd.specs.Gathering.{events_at, gathered}
 

@@ -11,10 +11,10 @@ use Rattle.plain_machine.specs.declared.request.Failure.{Failure}
 use Rattle.plain_machine.specs.declared.request.Failure.TheVariants.{Invalid as Spoiled, Io as DeviceFailed, Overflow as Overflowed}
 use Rattle.nbd_messages.specs.declared.errors.ErrorValue.{ErrorValue}
 use Rattle.nbd_messages.specs.declared.errors.ErrorValue.TheVariants.{Io, NoMemory, Invalid, NoSpace}
-use Rattle.served_array.specs.declared.array.Refused.{Refused}
-use Rattle.served_array.specs.declared.array.Refused.TheVariants.{Full, Error}
-use Rattle.served_array.specs.declared.array.Stepped.{Stepped}
-use Rattle.served_array.specs.declared.array.Stepped.TheVariants.{Done as StepDone, Idle, Back}
+use Rattle.nbd_backend.specs.declared.array.Refused.{Refused}
+use Rattle.nbd_backend.specs.declared.array.Refused.TheVariants.{Full, Error}
+use Rattle.nbd_backend.specs.declared.array.Stepped.{Stepped}
+use Rattle.nbd_backend.specs.declared.array.Stepped.TheVariants.{Done as StepDone, Idle, Back}
 
 -- why a piece is not taken in, from the volume's refusal
 abbrev pub refused_as : Refusal → Refused

@@ -1,8 +1,8 @@
 -- What a call of the trait makes of a volume that is served. This project's own.
 use Rattle.std.specs.Prelude.{◌≡◌, ◌==◌, ◌&&◌, ℕ, Bool, true, false, List, length, nat_lt, slice_get, Some, None}
 use Rattle.device.specs.Layers.{Layer}
-use Rattle.served_array.specs.Calls.{Call, Choose, Submit, Step}
-use Rattle.served_array.specs.declared.array.Stepped.TheVariants.{Still, Ended}
+use Rattle.nbd_backend.specs.Calls.{Call, Choose, Submit, Step}
+use Rattle.nbd_backend.specs.declared.array.Stepped.TheVariants.{Still, Ended}
 use Rattle.volume.specs.Volumed.{next_of}
 use Rattle.volume_nbd.specs.Faults.{is_stopped}
 use Rattle.volume_nbd.specs.Served.{Served}

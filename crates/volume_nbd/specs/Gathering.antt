@@ -3,9 +3,9 @@ use Rattle.std.specs.Prelude.{ℕ, Bool, List, [], ◌∷◌, Option, Some, None
 use Rattle.std.specs.List.{flat_map}
 use Rattle.device.specs.Layers.{Layer}
 use Rattle.plain_machine.specs.declared.event.Event.{Event}
-use Rattle.event_rounds.specs.Rounds.{issues_of, publications_of, reads_of, store_event, writes_of}
-use Rattle.event_rounds.specs.declared.rounds.Batch.{Batch}
-use Rattle.event_rounds.specs.declared.rounds.Batch.TheVariants.{Issues, Reads, Writes, Flushes, Publications, MoreIssues, Marks, Zeros, Areas}
+use Rattle.group_commit.specs.Rounds.{issues_of, publications_of, reads_of, store_event, writes_of}
+use Rattle.group_commit.specs.declared.rounds.Batch.{Batch}
+use Rattle.group_commit.specs.declared.rounds.Batch.TheVariants.{Issues, Reads, Writes, Flushes, Publications, MoreIssues, Marks, Zeros, Areas}
 use Rattle.snapshot.specs.Kept.{Kept}
 use Rattle.volume.specs.Volumed.{Volumed, is_due_of}
 

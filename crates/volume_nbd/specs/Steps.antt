@@ -5,13 +5,13 @@ use Rattle.plain_machine.specs.declared.event.Event.{Event}
 use Rattle.plain_machine.specs.declared.event.Outcome.{Outcome}
 use Rattle.plain_machine.specs.declared.request.Dev.{Dev}
 use Rattle.plain_machine.specs.Legal.{IsLegalStep}
-use Rattle.served_array.specs.declared.array.Stepped.{Stepped}
-use Rattle.served_array.specs.declared.array.Stepped.TheVariants.{Still, Idle, Done, Slow, Back, Ended}
+use Rattle.nbd_backend.specs.declared.array.Stepped.{Stepped}
+use Rattle.nbd_backend.specs.declared.array.Stepped.TheVariants.{Still, Idle, Done, Slow, Back, Ended}
 use Rattle.volume.specs.DoesAhead.{DoesAhead}
 use Rattle.volume.specs.DoesStep.{DoesStep}
 use Rattle.volume.specs.EventKinds.{is_of_merge}
 use Rattle.volume.specs.Volumed.{Volumed, is_due_of, is_loud_in_all, plain_of}
-use Rattle.saving_laws.specs.Saves.{SavesFirst}
+use Rattle.copy_before_write_laws.specs.Saves.{SavesFirst}
 use Rattle.volume_nbd.specs.Answers.{stepped_as}
 use Rattle.volume_nbd.specs.Faults.{is_failed_at}
 use Rattle.volume_nbd.specs.Looked.{IsLookedAt}

@@ -11,8 +11,8 @@ use Rattle.nbd_jobs.specs.declared.work.Kind.{Kind}
 use Rattle.nbd_jobs.specs.declared.work.Kind.TheVariants.{Read as AsksRead, Write as AsksWrite, Zeroes as AsksZeroes, Flush as AsksFlush}
 use Rattle.nbd_jobs.specs.declared.work.Work.{Work}
 use Rattle.nbd_messages.specs.declared.errors.ErrorValue.TheVariants.{Invalid, NoMemory}
-use Rattle.served_array.specs.declared.array.Refused.{Refused}
-use Rattle.served_array.specs.declared.array.Refused.TheVariants.{Full, Error}
+use Rattle.nbd_backend.specs.declared.array.Refused.{Refused}
+use Rattle.nbd_backend.specs.declared.array.Refused.TheVariants.{Full, Error}
 use Rattle.volume.specs.DoesSubmit.{DoesSubmit}
 use Rattle.volume.specs.Submitting.{IsRefusedAs}
 use Rattle.volume.specs.Volumed.{Volumed}

@@ -2,11 +2,11 @@
 ghost use Rattle.std.specs.Prelude.{◌≡◌};
 ghost use Rattle.volume_nbd.specs.Answers.{back_with, done_as, error_as, refused_as, stepped_as};
 
+use nbd_backend::{Refused, Stepped};
 use nbd_jobs::Bytes;
 use nbd_messages::ErrorValue;
 use plain_machine::{Failure, Outcome, Reply};
 use sector::Refusal;
-use served_array::{Refused, Stepped};
 use std::alloc::Global;
 
 /// Why a piece is not taken in that the volume refused.

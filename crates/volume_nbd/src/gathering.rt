@@ -1,12 +1,12 @@
 // The events of a batch are gathered.
 ghost use Rattle.std.specs.Prelude.{◌≡◌, ◌++◌, OnOk};
 ghost use Rattle.std.specs.List.{flat_map};
-ghost use Rattle.event_rounds.specs.Rounds.{store_event as event_by};
+ghost use Rattle.group_commit.specs.Rounds.{store_event as event_by};
 ghost use Rattle.volume.specs.Volumed.{is_due_of};
 ghost use Rattle.volume_nbd.specs.Gathering.{events_at, gathered, if_due};
 
 use device::Ahead;
-use event_rounds::{Batch, add_issues, add_publications, add_reads, add_writes, store_event};
+use group_commit::{Batch, add_issues, add_publications, add_reads, add_writes, store_event};
 use plain_machine::{Event, SnapId};
 use snapshot::Snapshot;
 use std::alloc::AllocError;

@@ -1,6 +1,6 @@
 //! A volume as an array that a client reads and writes: pieces of requests become requests of the volume, and its events are done
-//! in rounds. It stands on `served_array`, `nbd_jobs` and `nbd_messages` (what a session asks, and what it is told), on
-//! `event_rounds` and `in_flight` (which events are done together), on `saving_laws` (why an event saves first), and on `volume` with
+//! in rounds. It stands on `nbd_backend`, `nbd_jobs` and `nbd_messages` (what a session asks, and what it is told), on
+//! `group_commit` and `in_flight` (which events are done together), on `copy_before_write_laws` (why an event saves first), and on `volume` with
 //! what that is made of.
 //!
 //! It promises that a piece is handed on as just the request that it asks for, under the number that the volume gives it, or is

@@ -1,14 +1,14 @@
 // The array of a session.
 ghost use Rattle.std.specs.Prelude.{◌≡◌, ◌&&◌, ◌*◌, ◌==◌, ◌<◌, Some, false, length, nat_lt, slice_get, true};
 ghost use Rattle.nbd_jobs.specs.declared.work.Kind.TheVariants.{Write as AsksWrite};
-ghost use Rattle.served_array.specs.Calls.{Choose, Submit, Step};
+ghost use Rattle.nbd_backend.specs.Calls.{Choose, Submit, Step};
 ghost use Rattle.volume.specs.Volumed.{piece_with};
 ghost use Rattle.volume_nbd.specs.Calls.{does_by};
 
 use crate::VolumeArray;
 use device::Ahead;
+use nbd_backend::{Array, Refused, Stepped};
 use nbd_jobs::Work;
-use served_array::{Array, Refused, Stepped};
 use std::alloc::Global;
 
 impl<B: Ahead> VolumeArray<B> {

@@ -1,6 +1,6 @@
 // The events of a round are done.
 ghost use Rattle.std.specs.Prelude.{◌≡◌, ◌≢◌, ◌==◌, ◌&&◌, IfNone, IfSome, None, Some, false, length, true};
-ghost use Rattle.served_array.specs.declared.array.Stepped.TheVariants.{Ended, Still};
+ghost use Rattle.nbd_backend.specs.declared.array.Stepped.TheVariants.{Ended, Still};
 ghost use Rattle.volume.specs.Volumed.{is_due_of, next_of};
 ghost use Rattle.volume_nbd.specs.Faults.{is_stopped as is_stopped_by};
 ghost use Rattle.volume_nbd.specs.Served.{ChangesOrStarves, ChangesVolume, IsIdleIfNone, IsStarved};
@@ -12,9 +12,9 @@ use crate::faults::{is_failed_at, is_stopped};
 use crate::gathering::gather;
 use crate::looking::look_at;
 use device::Ahead;
-use event_rounds::{Batch, after};
+use group_commit::{Batch, after};
+use nbd_backend::Stepped;
 use plain_machine::Event;
-use served_array::Stepped;
 use volume::is_of_merge;
 
 /// A step looks at so many events and batches at most.

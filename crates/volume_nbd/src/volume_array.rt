@@ -4,7 +4,7 @@ ghost use Rattle.sector.specs.declared.refusal.Refusal.TheVariants.{NoMemory};
 ghost use Rattle.plain_machine.specs.declared.request.Dev.TheVariants.{Origin};
 
 use device::Ahead;
-use event_rounds::Batch;
+use group_commit::Batch;
 use plain_machine::{Dev, Event};
 use sector::Refusal;
 use std::alloc::Global;

@@ -7,15 +7,15 @@ use Rattle.plain_machine.specs.declared.request.Op.TheVariants.{Read, Write}
 use Rattle.plain_machine.specs.declared.request.Reply.{Reply}
 use Rattle.plain_machine.specs.declared.request.Reply.TheVariants.{Data, Flushed, Written}
 use Rattle.volume.specs.Flying.{Fits}
-use Rattle.audit.specs.declared.entry.Receipt.{Receipt}
-use Rattle.audit.specs.Seats.{Seated, seated_under, without_seated}
+use Rattle.audited_volume.specs.declared.entry.Receipt.{Receipt}
+use Rattle.audited_volume.specs.Seats.{Seated, seated_under, without_seated}
 use Rattle.locked_volume.specs.declared.rule.View.{View}
 use Rattle.locked_volume.specs.declared.told.Told.{Told}
-use Rattle.between_threads.specs.Passes.{Passed}
-use Rattle.between_threads.specs.Working.{IsEnded, IsWorked}
-use Rattle.between_threads.specs.declared.worker.WorkerEnd.{WorkerEnd}
-use Rattle.between_threads.specs.declared.worker.WorkerEnd.TheVariants.{Stopped, NoTicket}
-use Rattle.between_threads.specs.declared.ticket.PendingCopy.{PendingCopy}
+use Rattle.thread_channels.specs.Passes.{Passed}
+use Rattle.thread_channels.specs.Working.{IsEnded, IsWorked}
+use Rattle.thread_channels.specs.declared.worker.WorkerEnd.{WorkerEnd}
+use Rattle.thread_channels.specs.declared.worker.WorkerEnd.TheVariants.{Stopped, NoTicket}
+use Rattle.thread_channels.specs.declared.ticket.PendingCopy.{PendingCopy}
 use Rattle.locked_volume.specs.Seats.{IsReceipted}
 use Rattle.locked_volume.specs.Keeping.{Begins}
 use Rattle.volume_threads.specs.Sittings.{IsAnswered, SittingShape}

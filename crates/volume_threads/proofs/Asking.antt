@@ -2,12 +2,12 @@
 use Rattle.std.proofs.Common.{◌≡◌, ◌==◌, ◌<◌, ℕ, Bool, true, false, List, [], ◌++◌, length, set, get_or, refl, sym, ap, ◌∙◌, subst, Result, Ok, Err, IfErr, IfOk}
 use Rattle.std.proofs.lemmas.Bool.{eqb-true, eqb-false}
 use Rattle.std.proofs.lemmas.List.{get_or-set_same, get_or-set_other, length-set}
-use Rattle.between_threads.specs.BoardPasses.{Seen}
-use Rattle.audit.specs.declared.entry.Receipt.{Receipt}
+use Rattle.thread_channels.specs.BoardPasses.{Seen}
+use Rattle.audited_volume.specs.declared.entry.Receipt.{Receipt}
 use Rattle.sector.specs.declared.refusal.Refusal.{Refusal}
 use Rattle.locked_volume.specs.Keeping.{Begins}
 use Rattle.locked_volume.proofs.Begins.{begins_as, begins_in}
-use Rattle.audit.specs.declared.entry.Entry.{Entry}
+use Rattle.audited_volume.specs.declared.entry.Entry.{Entry}
 use Rattle.locked_volume.specs.Denying.{Wish, WasDenied}
 use Rattle.locked_volume.specs.Fixed.{Fixed}
 use Rattle.volume_threads.specs.Rigs.{AreIdle, HasAdded, IsIdle, seen_at}

@@ -2,11 +2,11 @@
 use Rattle.std.proofs.Common.{◌≡◌, ℕ, zero, suc, ◌<◌, List, [], ◌∷◌, length, get_or, slice_index_or, refl, sym, ap, ◌∙◌, arith}
 use Rattle.std.proofs.lemmas.List.{get_or-map}
 use Rattle.atomic_table.specs.Seated.{TableId}
-use Rattle.between_threads.specs.BoardPasses.{BoardId}
-use Rattle.between_threads.specs.Passes.{Queue}
+use Rattle.thread_channels.specs.BoardPasses.{BoardId}
+use Rattle.thread_channels.specs.Passes.{Queue}
 use Rattle.device.specs.Layers.{Layer}
-use Rattle.audit.specs.declared.entry.Entry.{Entry}
-use Rattle.audit.specs.Books.{AuditShape}
+use Rattle.audited_volume.specs.declared.entry.Entry.{Entry}
+use Rattle.audited_volume.specs.Books.{AuditShape}
 use Rattle.locked_volume.specs.Fixed.{Fixed, fixed_of}
 use Rattle.locked_volume.specs.Names.{no_table, nothing_fixed}
 use Rattle.volume_threads.specs.Rigs.{AreDealt, IsRoomOf, IsStart, OpenedShape}

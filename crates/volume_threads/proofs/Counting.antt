@@ -9,10 +9,10 @@ use Rattle.plain_machine.specs.declared.request.Reply.{Reply}
 use Rattle.locked_volume.specs.declared.rule.View.{View}
 use Rattle.locked_volume.specs.declared.told.Told.{Told}
 use Rattle.locked_volume.specs.Seats.{IsReceipted}
-use Rattle.audit.specs.declared.entry.Answered.{Answered}
-use Rattle.audit.specs.declared.entry.Entry.{Entry}
-use Rattle.audit.specs.declared.entry.Receipt.{Receipt}
-use Rattle.audit.specs.Entries.{Agreeing, answered_of, entries_by}
+use Rattle.audited_volume.specs.declared.entry.Answered.{Answered}
+use Rattle.audited_volume.specs.declared.entry.Entry.{Entry}
+use Rattle.audited_volume.specs.declared.entry.Receipt.{Receipt}
+use Rattle.audited_volume.specs.Entries.{Agreeing, answered_of, entries_by}
 use Rattle.volume_threads.specs.Sittings.{AreCounted, SittingHolds}
 
 -- one receipt more

@@ -13,9 +13,9 @@ use Rattle.atomic_table.proofs.ruled.Mark.TheSendSync as Mark
 use Rattle.atomic_table.proofs.perch.Perch.TheSendSync as Perch
 use Rattle.atomic_table.proofs.badge.Badge.TheSendSync as Badge
 use Rattle.atomic_table.proofs.send_lease.SendLease.TheSendSync as Lease
-use Rattle.between_threads.specs.contracts.queue.Tickets as Tickets
+use Rattle.thread_channels.specs.contracts.queue.Tickets as Tickets
 use Rattle.device.specs.declared.block.Block as Block
-use Rattle.audit.specs.contracts.audit.Audit as Audit
+use Rattle.audited_volume.specs.contracts.audit.Audit as Audit
 use Rattle.locked_volume.specs.declared.room.Room as Room
 use Rattle.volume_threads.specs.contracts.rig.Rig as Rig
 use Rattle.volume_threads.specs.contracts.seat.Seat as Sat

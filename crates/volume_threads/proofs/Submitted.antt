@@ -5,8 +5,8 @@ use Rattle.atomic_table.specs.Seated.{TableId}
 use Rattle.atomic_table.specs.declared.shared.Seat.{Seat}
 use Rattle.plain_machine.specs.declared.request.Request.{Request}
 use Rattle.sector.specs.declared.refusal.Refusal.{Refusal}
-use Rattle.audit.specs.declared.entry.Entry.{Entry}
-use Rattle.audit.specs.Seats.{Seated}
+use Rattle.audited_volume.specs.declared.entry.Entry.{Entry}
+use Rattle.audited_volume.specs.Seats.{Seated}
 use Rattle.locked_volume.specs.Denying.{Serve, WasDenied}
 use Rattle.locked_volume.specs.Fixed.{Fixed}
 use Rattle.locked_volume.specs.Keeping.{Begins}

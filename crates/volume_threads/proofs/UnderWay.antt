@@ -5,7 +5,7 @@ use Rattle.plain_machine.specs.declared.request.Dev.{Dev}
 use Rattle.plain_machine.specs.declared.request.Op.{Op}
 use Rattle.plain_machine.specs.declared.request.Reply.{Reply}
 use Rattle.sector.specs.declared.refusal.Refusal.{Refusal}
-use Rattle.audit.specs.declared.entry.Receipt.{Receipt}
+use Rattle.audited_volume.specs.declared.entry.Receipt.{Receipt}
 use Rattle.plain_machine.specs.declared.request.Request.{Request}
 use Rattle.locked_volume.proofs.Begins.{begins_same, begins_then}
 use Rattle.volume_threads.specs.Rigs.{HasAdded, IsPieceCut, SeatShape, receipts_at, seen_at}

@@ -1,13 +1,13 @@
 -- What callers see of a rig, of its seats and of what it is made from. This project's own.
 use Rattle.std.specs.Prelude.{◌≡◌, ◌⊎◌, ◌+◌, ◌<◌, ◌≤◌, ℕ, List, [], ◌∷◌, ◌++◌, length, map, slice_index_or}
 use Rattle.atomic_table.specs.Seated.{TableId}
-use Rattle.between_threads.specs.Passes.{Queue}
+use Rattle.thread_channels.specs.Passes.{Queue}
 use Rattle.device.specs.Layers.{Layer}
-use Rattle.audit.specs.declared.entry.Entry.{Entry}
-use Rattle.audit.specs.declared.entry.Receipt.{Receipt}
-use Rattle.audit.specs.Books.{AuditShape}
-use Rattle.audit.specs.declared.entry.Verdict.TheVariants.{Agrees}
-use Rattle.audit.specs.Entries.{HasVerdict, answered_of, entries_by}
+use Rattle.audited_volume.specs.declared.entry.Entry.{Entry}
+use Rattle.audited_volume.specs.declared.entry.Receipt.{Receipt}
+use Rattle.audited_volume.specs.Books.{AuditShape}
+use Rattle.audited_volume.specs.declared.entry.Verdict.TheVariants.{Agrees}
+use Rattle.audited_volume.specs.Entries.{HasVerdict, answered_of, entries_by}
 use Rattle.chunk.specs.Pieces.{Span}
 use Rattle.plain_machine.specs.Failures.{refusal_of}
 use Rattle.plain_machine.specs.declared.request.Dev.{Dev}
@@ -20,7 +20,7 @@ use Rattle.sector.specs.declared.refusal.Refusal.{Refusal}
 use Rattle.locked_volume.specs.Keeping.{Begins}
 use Rattle.volume_threads.specs.Served.{IsOf, IsRefused}
 use Rattle.locked_volume.specs.Fixed.{Fixed, fixed_of}
-use Rattle.between_threads.specs.BoardPasses.{BoardId, Seen}
+use Rattle.thread_channels.specs.BoardPasses.{BoardId, Seen}
 use Rattle.locked_volume.specs.Beside.{OpenedAt}
 use Rattle.locked_volume.specs.Names.{no_table, nothing_fixed}
 use Rattle.volume_threads.specs.Sittings.{AreCounted, SittingShape}

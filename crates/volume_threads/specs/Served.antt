@@ -11,7 +11,7 @@ use Rattle.plain_machine.specs.declared.request.Reply.TheVariants.{Data, Written
 use Rattle.plain_machine.specs.declared.request.Request.{Request}
 use Rattle.sector.specs.declared.refusal.Refusal.{Refusal}
 use Rattle.sector.specs.declared.refusal.Refusal.TheVariants.{NoMemory}
-use Rattle.audit.specs.declared.entry.Receipt.{Receipt}
+use Rattle.audited_volume.specs.declared.entry.Receipt.{Receipt}
 
 -- a request of an operation on a piece of a device
 pub record IsFor (dev : Dev) (op : Op) (piece : Span) (request : Request) : Type 0 where

@@ -5,10 +5,10 @@ use Rattle.atomic_table.specs.declared.badge.Badge.{Badge}
 use Rattle.plain_machine.specs.declared.request.Reply.{Reply}
 use Rattle.plain_machine.specs.declared.request.Request.{Request}
 use Rattle.volume.specs.Flying.{Fits}
-use Rattle.audit.specs.declared.entry.Receipt.{Receipt}
-use Rattle.audit.specs.Entries.{answered_of}
-use Rattle.audit.specs.declared.entry.Entry.{Entry}
-use Rattle.audit.specs.Seats.{Seated}
+use Rattle.audited_volume.specs.declared.entry.Receipt.{Receipt}
+use Rattle.audited_volume.specs.Entries.{answered_of}
+use Rattle.audited_volume.specs.declared.entry.Entry.{Entry}
+use Rattle.audited_volume.specs.Seats.{Seated}
 use Rattle.locked_volume.specs.Keeping.{Begins}
 use Rattle.locked_volume.specs.declared.rule.View.{View}
 use Rattle.locked_volume.specs.Denying.{Wish, WasDenied}

@@ -1,7 +1,7 @@
 -- What a seat sees of the boards. This project's own.
 use Rattle.std.specs.Prelude.{◌≡◌, ◌<◌, ℕ, List, [], length, slice_index_or}
-use Rattle.between_threads.specs.BoardPasses.{BoardId, Seen}
-use Rattle.between_threads.specs.declared.usage.PlaceUsage.{PlaceUsage}
+use Rattle.thread_channels.specs.BoardPasses.{BoardId, Seen}
+use Rattle.thread_channels.specs.declared.usage.PlaceUsage.{PlaceUsage}
 use Rattle.locked_volume.specs.Boards.{AreReaders, HasRead}
 use Rattle.volume_threads.specs.Rigs.{SeatShape}
 

@@ -4,7 +4,7 @@ ghost use Rattle.chunk.specs.Pieces.{span_of};
 ghost use Rattle.plain_machine.specs.declared.request.Op.TheVariants.{Flush, Read, Write};
 ghost use Rattle.plain_machine.specs.declared.request.Reply.TheVariants.{Data, Written};
 ghost use Rattle.volume.specs.Flying.{Fits};
-ghost use Rattle.audit.specs.declared.entry.Receipt.{Receipt};
+ghost use Rattle.audited_volume.specs.declared.entry.Receipt.{Receipt};
 ghost use Rattle.locked_volume.specs.Denying.{Begin, Serve, WasBegun, WasDenied};
 ghost use Rattle.locked_volume.specs.Fixed.{piece_at};
 ghost use Rattle.volume_threads.specs.Rigs.{HasAdded, IsPieceCut, receipts_at, seen_at};
@@ -18,14 +18,14 @@ use crate::rig::Rig;
 use crate::seat::Seat;
 use crate::sitting::Sitting;
 use crate::turns::{begin, merge_turn};
-use audit::Receipt;
-use between_threads::Gate;
+use audited_volume::Receipt;
 use chunk::Geometry;
 use layers::Layered;
 use locked_volume::Room;
 use plain_machine::{Dev, Op, Reply, Request, SnapId, refusal_for};
 use sector::{Buf, Range, Refusal, SECTOR_BYTES};
 use std::sync::Wait;
+use thread_channels::Gate;
 
 impl<J: Room> Seat<J> {
     /// Its number, from 1 to 8.

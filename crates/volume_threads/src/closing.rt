@@ -1,7 +1,7 @@
 // A rig is closed.
 ghost use Rattle.std.specs.Prelude.{◌≡◌, ◌<◌, ◌++◌, ℕ, List, [], length, slice_index_or};
-ghost use Rattle.audit.specs.declared.entry.Entry.{Entry};
-ghost use Rattle.audit.specs.Books.{AuditShape};
+ghost use Rattle.audited_volume.specs.declared.entry.Entry.{Entry};
+ghost use Rattle.audited_volume.specs.Books.{AuditShape};
 ghost use Rattle.locked_volume.specs.AskedFor.{AddsAskedFor};
 ghost use Rattle.locked_volume.specs.Beside.{IsBeside};
 ghost use Rattle.locked_volume.specs.Fixed.{StaysFrom, fixed_of};
@@ -11,11 +11,11 @@ use crate::place::VolumePlace;
 use crate::rig::Rig;
 use crate::seat::Seat;
 use crate::worker::Worker;
-use audit::Audit;
-use between_threads::{Gate, never};
+use audited_volume::Audit;
 use layers::Layered;
 use locked_volume::{Beside, Post, Room};
 use std::sync::Wait;
+use thread_channels::{Gate, never};
 
 impl<J: Room> Seat<J> {
     /// Compares what the seat knows of a volume with its journal.

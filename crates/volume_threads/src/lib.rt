@@ -2,7 +2,7 @@
 //! stands under a lock of its own, with the journal of all that was asked of it. The rig starts no thread: its callers' threads
 //! have its seats and workers.
 //!
-//! It stands on `locked_volume`, which is what stands under a volume's lock and beside it, and on `between_threads`, whose queue has
+//! It stands on `locked_volume`, which is what stands under a volume's lock and beside it, and on `thread_channels`, whose queue has
 //! the tickets of copies. What a seat answers is made of the replies in the receipts that the call added to
 //! it, one for each piece that was submitted, in order, for that device, operation and range. Each seat's receipts of a volume are its
 //! entries in the journal since the rig was made, in their order, and there are as many: this holds whenever the volume's lock is
@@ -11,7 +11,7 @@
 //!
 //! Nothing is promised of waiting: not that a call ever returns, that a waiting thread is woken, that a worker ever runs, that
 //! threads take turns, nor how long anything takes. That a copy is done by the worker that took its ticket is how the code is
-//! written, and no clause. A branch that never comes, though no proof says so, goes through `never` of `between_threads`: it answers
+//! written, and no clause. A branch that never comes, though no proof says so, goes through `never` of `thread_channels`: it answers
 //! no false refusal.
 #![tactic(auto)]
 

@@ -1,7 +1,7 @@
 // A rig is made of audits.
 ghost use Rattle.std.specs.Prelude.{◌≡◌, ◌+◌, ◌-◌, ◌<◌, ◌≤◌, ℕ, [], length, slice_index_or, vec_capacity, IfErr, IfOk};
 ghost use Rattle.sector.specs.declared.refusal.Refusal.TheVariants.{NoMemory};
-ghost use Rattle.audit.specs.Books.{AuditShape};
+ghost use Rattle.audited_volume.specs.Books.{AuditShape};
 ghost use Rattle.locked_volume.specs.Fixed.{fixed_of};
 ghost use Rattle.volume_threads.specs.Placed.{AreNumbered};
 ghost use Rattle.locked_volume.specs.Beside.{OpenedAt};
@@ -15,14 +15,14 @@ use crate::rig::Rig;
 use crate::seat::Seat;
 use crate::sitting::Sitting;
 use crate::worker::Worker;
-use audit::Audit;
-use between_threads::{Count, Gate};
+use audited_volume::Audit;
 use layers::Layered;
 use locked_volume::{OpenedVolume, Readers, Room};
 use sector::Refusal;
 use std::alloc::{AllocError, Global};
 use std::marker::PhantomData;
 use std::sync::{Condvar, Mutex};
+use thread_channels::{Count, Gate};
 
 /// A seat at each volume.
 fn seat_row<J: Room>(

@@ -1,7 +1,7 @@
 // What a rig is made from, beside its audits.
-use between_threads::{TicketPass, Tickets};
 use locked_volume::OpenedVolume;
 use std::marker::Model;
+use thread_channels::{TicketPass, Tickets};
 
 /// Tables, boards and first passes for the volumes of a rig, and its queue of tickets. They are made before the rig, so that the
 /// caller can name them. Contracts see the tables, the boards, the queue, and how many passes of it are left.

@@ -4,10 +4,10 @@ ghost use Rattle.volume_threads.specs.Rigs.{AreOpened};
 
 use crate::opened::Opened;
 use crate::queue::QueuePass;
-use between_threads::Tickets;
 use locked_volume::{OpenedVolume, Room};
 use std::alloc::{AllocError, Global};
 use std::marker::PhantomData;
+use thread_channels::Tickets;
 
 impl Opened {
     /// Tables for so many volumes, and a queue. `AllocError` where memory is refused.

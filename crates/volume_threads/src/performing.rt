@@ -1,7 +1,7 @@
 // One request of a seat, from its submission to its reply.
 ghost use Rattle.std.specs.Prelude.{◌≡◌, ◌≢◌, ◌*◌, ◌<◌, ℕ, List, [], length, IfErr, IfOk};
 ghost use Rattle.plain_machine.specs.declared.request.Op.TheVariants.{Flush, Write};
-ghost use Rattle.audit.specs.declared.entry.Receipt.{Receipt};
+ghost use Rattle.audited_volume.specs.declared.entry.Receipt.{Receipt};
 ghost use Rattle.locked_volume.specs.Denying.{Serve};
 ghost use Rattle.volume_threads.specs.Sittings.{IsPerformed, IsTurnedAway};
 

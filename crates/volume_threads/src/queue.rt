@@ -1,10 +1,10 @@
 // The tickets of a rig.
 ghost use Rattle.std.specs.Prelude.{◌≡◌};
 
-use between_threads::{Count, TicketPass, Tickets};
 use locked_volume::Room;
 use std::marker::PhantomData;
 use std::sync::Mutex;
+use thread_channels::{Count, TicketPass, Tickets};
 
 /// The queue of tickets of all volumes, and how many were counted.
 #[derive(Drop)]

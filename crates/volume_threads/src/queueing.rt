@@ -1,12 +1,12 @@
 // Tickets are put.
 ghost use Rattle.std.specs.Prelude.{◌≡◌};
-ghost use Rattle.between_threads.specs.Working.{HasPut};
+ghost use Rattle.thread_channels.specs.Working.{HasPut};
 
 use crate::queue::{QueuePass, TicketQueue};
-use between_threads::{PendingCopy, Ticket, TicketPass};
 use locked_volume::Room;
 use plain_machine::CopyId;
 use std::sync::Wait;
+use thread_channels::{PendingCopy, Ticket, TicketPass};
 
 /// The copies that a call under a volume's lock started: those after the first number, up to the second.
 #[derive(Clone, Copy, PartialEq, Eq)]

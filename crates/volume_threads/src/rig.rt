@@ -1,11 +1,11 @@
 // A rig.
 use crate::place::VolumePlace;
 use crate::queue::TicketQueue;
-use audit::Audit;
-use between_threads::Gate;
+use audited_volume::Audit;
 use layers::Layered;
 use locked_volume::Room;
 use std::marker::Model;
+use thread_channels::Gate;
 
 /// Volumes that threads share, each under a lock of its own, and the tickets of their copies. Contracts see how many
 /// workers there are.

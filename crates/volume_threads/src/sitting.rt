@@ -1,6 +1,6 @@
 // A seat at one volume.
 use atomic_table::Badge;
-use audit::Receipt;
+use audited_volume::Receipt;
 use locked_volume::{Room, View};
 use std::marker::{Model, PhantomData};
 

@@ -1,10 +1,10 @@
 // What a seat does at one volume, under its lock.
 ghost use Rattle.std.specs.Prelude.{◌≡◌, ◌≢◌, ◌+◌, ◌*◌, ◌<◌, ◌++◌, ◌∷◌, ℕ, true, List, [], length, map, slice_index_or, IfErr, IfOk, IfSome, IfNone, MatchResult, OnErr, OnOk};
 ghost use Rattle.plain_machine.specs.declared.request.Op.TheVariants.{Flush, Write};
-ghost use Rattle.audit.specs.Entries.{answered_of, entries_by};
-ghost use Rattle.audit.specs.Seats.{Seated};
-ghost use Rattle.audit.specs.declared.entry.Entry.{Entry};
-ghost use Rattle.audit.specs.declared.entry.Receipt.{Receipt};
+ghost use Rattle.audited_volume.specs.Entries.{answered_of, entries_by};
+ghost use Rattle.audited_volume.specs.Seats.{Seated};
+ghost use Rattle.audited_volume.specs.declared.entry.Entry.{Entry};
+ghost use Rattle.audited_volume.specs.declared.entry.Receipt.{Receipt};
 ghost use Rattle.locked_volume.specs.Beside.{IsBeside};
 ghost use Rattle.locked_volume.specs.Denying.{Begin, Serve, WasBegun, WasDenied};
 ghost use Rattle.locked_volume.specs.Seats.{IsSeat};
@@ -14,7 +14,7 @@ ghost use Rattle.volume_threads.specs.Sittings.{AreCounted, IsAnswered, IsSameSi
 
 use crate::sitting::Sitting;
 use atomic_table::Badge;
-use audit::Receipt;
+use audited_volume::Receipt;
 use layers::Layered;
 use locked_volume::{Beside, Pass, Post, Room};
 use plain_machine::{Reply, ReqId, Request, SnapId};

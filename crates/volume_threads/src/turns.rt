@@ -3,8 +3,8 @@ ghost use Rattle.std.specs.Prelude.{◌≡◌, ◌≢◌, ◌*◌, ◌<◌, ◌�
 ghost use Rattle.std.specs.Sync.Mutex.{mutex_guard_value};
 ghost use Rattle.plain_machine.specs.declared.event.Event.TheVariants.{Issue};
 ghost use Rattle.plain_machine.specs.declared.request.Op.TheVariants.{Flush, Write};
-ghost use Rattle.audit.specs.Seats.{Seated};
-ghost use Rattle.audit.specs.declared.entry.Receipt.{Receipt};
+ghost use Rattle.audited_volume.specs.Seats.{Seated};
+ghost use Rattle.audited_volume.specs.declared.entry.Receipt.{Receipt};
 ghost use Rattle.locked_volume.specs.Denying.{Begin, Serve, WasBegun, WasDenied};
 ghost use Rattle.volume_threads.specs.Sittings.{IsAnswered, IsPerformed, IsSameSitting, IsTurnedAway, IsWaiting};
 ghost use Rattle.sector.specs.declared.refusal.Refusal.TheVariants.{NotQuiet};
@@ -12,12 +12,12 @@ ghost use Rattle.sector.specs.declared.refusal.Refusal.TheVariants.{NotQuiet};
 use crate::place::VolumePlace;
 use crate::queueing::Started;
 use crate::sitting::Sitting;
-use between_threads::never;
 use layers::Layered;
 use locked_volume::{Post, Room};
 use plain_machine::{Event, Reply, ReqId, Request, SnapId};
 use sector::Refusal;
 use std::sync::{MutexGuard, Wait};
+use thread_channels::never;
 
 /// Takes a volume's lock. What lies under it is of this volume, which no type says.
 pub(crate) fn locked<'a, B: Layered, J: Room, R: Wait>(

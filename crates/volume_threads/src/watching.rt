@@ -4,9 +4,9 @@ ghost use Rattle.volume_threads.specs.Watching.{HasLooked};
 
 use crate::rig::Rig;
 use crate::seat::Seat;
-use between_threads::{Gate, PlaceUsage};
 use layers::Layered;
 use locked_volume::Room;
+use thread_channels::{Gate, PlaceUsage};
 
 impl<J: Room> Seat<J> {
     /// How much of a snapshot's store is in use, by its place in the volume, which counts snapshots from 0 in order of attaching;

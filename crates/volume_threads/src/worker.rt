@@ -6,11 +6,11 @@ use crate::queue::QueuePass;
 use crate::rig::Rig;
 use crate::seat::Seat;
 use crate::turns::copy;
-use between_threads::{Copies, Gate, PendingCopy, TicketPass, Tickets};
 use layers::Layered;
 use locked_volume::Room;
 use plain_machine::Event;
 use std::sync::Wait;
+use thread_channels::{Copies, Gate, PendingCopy, TicketPass, Tickets};
 
 /// A worker of a rig, which one thread has at a time.
 #[derive(Drop)]
@@ -48,7 +48,7 @@ impl<B: Layered, G: Gate + Drop, J: Room> Rig<B, G, J> {
         let mut copies = Copying {
             places: self.places.as_slice(),
         };
-        let _ = between_threads::work(
+        let _ = thread_channels::work(
             rt,
             &self.queue.tickets,
             &mut worker.pass.pass,

@@ -1,7 +1,7 @@
 -- So many of the first ones may be marked.
 use Rattle.std.proofs.Common.{◌≡◌, ◌≤◌, map, take}
 use Rattle.plain_machine.specs.Plain.{may_overflow}
-use Rattle.audit.specs.Noted.{may_count}
+use Rattle.audited_volume.specs.Noted.{may_count}
 use Rattle.counted_volume.proofs.counted_volume.count_may.Given as goal
 
 abbrev pub invariant-loop-k : goal.invariant-loop-k

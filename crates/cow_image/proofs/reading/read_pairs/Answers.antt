@@ -1,6 +1,6 @@
 use Rattle.std.proofs.Common.{◌≤◌, ◌<◌, ◌+◌, ◌*◌, ◌/◌, ◌∙◌, arith, ap, length}
-use Rattle.store_bytes.specs.Places.{area_place, chunk_at}
-use Rattle.store_bytes.specs.Pairs.{pairs_of}
+use Rattle.cow_format.specs.Places.{area_place, chunk_at}
+use Rattle.cow_format.specs.Pairs.{pairs_of}
 use Rattle.cow_image.proofs.Loads.{prefix_more, prefix_low, pairs-loaded, area_far}
 use Rattle.cow_image.proofs.reading.read_pairs.Goals as goal
 

@@ -1,5 +1,5 @@
 use Rattle.std.proofs.Common.{◌≡◌}
-use Rattle.store_bytes.specs.Pairs.{pairs_of}
+use Rattle.cow_format.specs.Pairs.{pairs_of}
 use Rattle.cow_image.proofs.SlotFaults.{first_is}
 use Rattle.cow_image.proofs.telling.read_fault.Goals as goal
 

@@ -1,6 +1,6 @@
 use Rattle.std.proofs.Common.{◌≡◌, ℕ, ◌*◌, ◌<◌, ◌≤◌, length, get_or}
 use Rattle.sector.specs.declared.pair.Pair.{Pair}
-use Rattle.store_bytes.specs.Slots.{pair_in}
+use Rattle.cow_format.specs.Slots.{pair_in}
 use Rattle.cow_merge.proofs.gathering.put_slots.Given as goal
 
 abbrev pub invariant-loop-slot : goal.invariant-loop-slot

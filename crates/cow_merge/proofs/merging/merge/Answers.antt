@@ -1,7 +1,7 @@
 use Rattle.std.proofs.Common.{◌≡◌, inl, inr, ℕ, ◌+◌, ◌*◌, ◌/◌, ◌<◌, ◌≤◌, List, length, take, arith, refl}
 use Rattle.std.proofs.lemmas.Result.{on_ok_weaker}
 use Rattle.sector.specs.Bytes.{sector_at}
-use Rattle.store_bytes.specs.Picture.{place_of}
+use Rattle.cow_format.specs.Picture.{place_of}
 use Rattle.cow_image.specs.declared.map.CowMap.{CowMap}
 use Rattle.cow_image.specs.Maps.{IsMapOf}
 use Rattle.cow_merge.specs.Merges.{IsMerging}

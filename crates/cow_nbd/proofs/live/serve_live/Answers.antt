@@ -1,8 +1,8 @@
 use Rattle.std.proofs.Common.{◌*◌, List, refl, subst}
-use Rattle.store_bytes.specs.Pairs.{pairs_of}
+use Rattle.cow_format.specs.Pairs.{pairs_of}
 use Rattle.cow_image.specs.Shown.{shown}
 use Rattle.nbd_options.specs.declared.export.Export.{Export}
-use Rattle.nbd_server.specs.Talk.{Talk, beginning}
+use Rattle.nbd_read_session.specs.Talk.{Talk, beginning}
 use Rattle.cow_nbd.specs.Live.{all_marked}
 use Rattle.cow_nbd.proofs.InUse.{live_known}
 use Rattle.cow_nbd.proofs.live.serve_live.Goals as goal

@@ -1,7 +1,7 @@
 use Rattle.std.proofs.Common.{◌+◌, ◌-◌, ◌*◌, ◌%◌, ◌<◌, ◌≤◌, ℕ, Bool, arith, ap, ◌∙◌, sym}
 use Rattle.std.proofs.Math.Nat.{mod-lt}
 use Rattle.cow_nbd.specs.Shows.{has_copy}
-use Rattle.nbd_server.specs.Blocks.{marked_for}
+use Rattle.nbd_read_session.specs.Blocks.{marked_for}
 use Rattle.cow_nbd.proofs.Marks.{first_marked, marked_step, marked_stop, marked_all, kinds_same, kinds_other, some_times}
 use Rattle.cow_nbd.proofs.marking.marked.Goals as goal
 

@@ -1,6 +1,6 @@
 use Rattle.std.proofs.Common.{◌≡◌, ◌+◌, ◌-◌, ◌≤◌}
 use Rattle.cow_nbd.specs.Shows.{has_copy}
-use Rattle.nbd_server.specs.Blocks.{marked_for}
+use Rattle.nbd_read_session.specs.Blocks.{marked_for}
 use Rattle.cow_nbd.proofs.marking.marked.Given as goal
 
 abbrev pub invariant-loop-done : goal.invariant-loop-done

@@ -1,5 +1,5 @@
 use Rattle.std.proofs.Common.{◌≡◌, ℕ, ◌*◌, List, sym, subst, ap, ◌∙◌}
-use Rattle.store_bytes.specs.Picture.{picture}
+use Rattle.cow_format.specs.Picture.{picture}
 use Rattle.cow_image.specs.Shown.{shown}
 use Rattle.cow_image.proofs.Exports.{picture_is}
 use Rattle.sector.specs.declared.pair.Pair.{Pair}

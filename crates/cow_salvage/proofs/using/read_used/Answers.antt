@@ -1,5 +1,5 @@
 use Rattle.std.proofs.Common.{◌≡◌, ◌∙◌, ◌+◌, ◌*◌, ◌≤◌, ap, sym, arith, ℕ}
-use Rattle.store_bytes.specs.Places.{area_place, slot}
+use Rattle.cow_format.specs.Places.{area_place, slot}
 use Rattle.cow_image.proofs.Loads.{area_far}
 use Rattle.cow_salvage.specs.Used.{used_below}
 use Rattle.cow_salvage.proofs.UsedSlots.{inside_more, used_area}

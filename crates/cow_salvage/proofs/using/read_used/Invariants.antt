@@ -1,6 +1,6 @@
 use Rattle.std.proofs.Common.{◌≡◌, List, ℕ, ◌+◌, ◌*◌, ◌<◌, ◌≤◌}
 use Rattle.std.specs.Prelude.{Some}
-use Rattle.store_bytes.specs.Places.{area_place, slot}
+use Rattle.cow_format.specs.Places.{area_place, slot}
 use Rattle.cow_salvage.specs.Used.{used_below}
 use Rattle.cow_salvage.proofs.using.read_used.Given as goal
 

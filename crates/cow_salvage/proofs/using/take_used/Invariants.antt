@@ -1,6 +1,6 @@
 use Rattle.std.proofs.Common.{◌≡◌, ℕ, ◌+◌, ◌*◌, ◌<◌}
 use Rattle.sector.specs.declared.pair.Pair.{Pair}
-use Rattle.store_bytes.specs.Slots.{pair_in}
+use Rattle.cow_format.specs.Slots.{pair_in}
 use Rattle.cow_salvage.specs.Used.{used_below}
 use Rattle.cow_salvage.proofs.using.take_used.Given as goal
 

@@ -1,5 +1,5 @@
 use Rattle.device_list.specs.Tables.{table_of}
-use Rattle.command_rules.proofs.AtPlace.{put_back}
+use Rattle.command_semantics.proofs.AtPlace.{put_back}
 use Rattle.device_list.proofs.Showing.{shown_at, shown_in, shown_inside, shown_set}
 use Rattle.device_commands.proofs.Places.{placed}
 use Rattle.device_commands.proofs.Meeting.{made_ok, made_err, met_ok, met_err, busy_ok, busy_err, attached_named, put_back_named}

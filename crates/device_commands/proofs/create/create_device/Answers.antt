@@ -1,8 +1,8 @@
 use Rattle.std.proofs.Common.{◌≡◌, sym, subst}
-use Rattle.command_rules.specs.Creating.{made}
-use Rattle.command_rules.specs.Journal.{enters_journal}
-use Rattle.command_rules.proofs.Starving.{serves_if_keep}
-use Rattle.command_rules.proofs.SoundRules.{IsSound, made_sound}
+use Rattle.command_semantics.specs.Creating.{made}
+use Rattle.command_semantics.specs.Journal.{enters_journal}
+use Rattle.command_semantics.proofs.Starving.{serves_if_keep}
+use Rattle.command_semantics.proofs.SoundRules.{IsSound, made_sound}
 use Rattle.device_list.specs.Tables.{table_of}
 use Rattle.device_commands.proofs.Ruled.{target_ruled}
 use Rattle.device_commands.proofs.create.create_device.Goals as goal

@@ -2,9 +2,9 @@ use Rattle.std.proofs.Common.{◌≡◌, sym, subst}
 use Rattle.std.specs.Prelude.{IfErr}
 use Rattle.sector.specs.declared.refusal.Refusal.TheVariants.{JournalFull}
 use Rattle.table.specs.declared.lines.Target.{Target}
-use Rattle.command_rules.specs.Naming.{AreNamed}
-use Rattle.command_rules.proofs.Keeping.{changes_keep}
-use Rattle.command_rules.proofs.NamedRules.{broken_named, laid_named, origin_made_named}
+use Rattle.command_semantics.specs.Naming.{AreNamed}
+use Rattle.command_semantics.proofs.Keeping.{changes_keep}
+use Rattle.command_semantics.proofs.NamedRules.{broken_named, laid_named, origin_made_named}
 use Rattle.device_list.specs.Tables.{table_of}
 use Rattle.device_commands.specs.Asked.{IsAskedMuch}
 use Rattle.device_commands.specs.Order.{changed_under}

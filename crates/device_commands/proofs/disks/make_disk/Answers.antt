@@ -1,10 +1,10 @@
 use Rattle.std.proofs.Common.{rules}
 use Rattle.std.specs.Prelude.{Ok}
-use Rattle.command_rules.specs.Disks.{make}
-use Rattle.command_rules.specs.Naming.{AreNamed}
-use Rattle.command_rules.proofs.Keeping.{changes_keep}
-use Rattle.command_rules.proofs.NamedRules.{make_named}
-use Rattle.command_rules.proofs.SoundRules.{IsSound, make_sound}
+use Rattle.command_semantics.specs.Disks.{make}
+use Rattle.command_semantics.specs.Naming.{AreNamed}
+use Rattle.command_semantics.proofs.Keeping.{changes_keep}
+use Rattle.command_semantics.proofs.NamedRules.{make_named}
+use Rattle.command_semantics.proofs.SoundRules.{IsSound, make_sound}
 use Rattle.device_list.specs.Tables.{table_of}
 use Rattle.device_commands.proofs.disks.make_disk.Goals as goal
 

@@ -1,8 +1,8 @@
 use Rattle.std.proofs.Common.{ap}
 use Rattle.std.specs.Prelude.{◌≡◌}
 use Rattle.device_list.specs.Tables.{table_of}
-use Rattle.command_rules.proofs.NamedFrames.{put_volume_named}
-use Rattle.command_rules.proofs.SoundFrames.{volume_quiet, volume_sound}
+use Rattle.command_semantics.proofs.NamedFrames.{put_volume_named}
+use Rattle.command_semantics.proofs.SoundFrames.{volume_quiet, volume_sound}
 use Rattle.device_list.specs.Flights.{IsSettledBy, Settles}
 use Rattle.device_list.specs.Names.{KeepsNames}
 use Rattle.device_list.specs.Backed.{Backed}

@@ -1,5 +1,5 @@
 use Rattle.device_list.specs.Tables.{table_of}
-use Rattle.command_rules.proofs.NamedFrames.{put_volume_named}
+use Rattle.command_semantics.proofs.NamedFrames.{put_volume_named}
 use Rattle.device_list.specs.Flights.{Declines, Starts}
 use Rattle.device_list.proofs.Showing.{number_done, refused_done, shown_at, shown_inside, shown_set, yet_shown}
 use Rattle.device_list.specs.Names.{KeepsNames}

@@ -1,7 +1,7 @@
 use Rattle.std.specs.Prelude.{not}
 use Rattle.volume.specs.EventKinds.{is_of_merge}
 use Rattle.device_list.specs.Tables.{table_of}
-use Rattle.command_rules.proofs.NamedFrames.{put_volume_named}
+use Rattle.command_semantics.proofs.NamedFrames.{put_volume_named}
 use Rattle.device_list.specs.Names.{KeepsNames}
 use Rattle.device_list.proofs.Showing.{none_due, same_shown, shown_at, shown_inside, shown_set, steps_done}
 use Rattle.device_commands.proofs.InVolume.{changed_in, not_due_in, same_in, step_sound, stepped_did}

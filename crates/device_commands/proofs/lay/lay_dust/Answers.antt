@@ -2,7 +2,7 @@ use Rattle.std.proofs.Common.{sym}
 use Rattle.std.specs.Prelude.{false, []}
 use Rattle.device.specs.Layers.{Dusty}
 use Rattle.device_list.specs.Tables.{table_of}
-use Rattle.command_rules.proofs.InTable.{laid_at}
+use Rattle.command_semantics.proofs.InTable.{laid_at}
 use Rattle.device_commands.proofs.lay.lay_dust.Goals as goal
 
 pub returns : goal.returns

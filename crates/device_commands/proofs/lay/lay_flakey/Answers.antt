@@ -1,7 +1,7 @@
 use Rattle.std.proofs.Common.{sym}
 use Rattle.device_list.specs.Tables.{table_of}
 use Rattle.layers.specs.Layer.{flakey_layer}
-use Rattle.command_rules.proofs.InTable.{laid_at}
+use Rattle.command_semantics.proofs.InTable.{laid_at}
 use Rattle.device_commands.proofs.lay.lay_flakey.Goals as goal
 
 pub returns : goal.returns

@@ -1,6 +1,6 @@
 use Rattle.std.proofs.Common.{◌≡◌, ◌++◌, take}
 use Rattle.std.specs.List.{flat_map}
-use Rattle.command_rules.specs.Listing.{volume_items}
+use Rattle.command_semantics.specs.Listing.{volume_items}
 use Rattle.device_list.proofs.Showing.{shown_in}
 use Rattle.device_commands.proofs.listing.add_volumes.Given as goal
 

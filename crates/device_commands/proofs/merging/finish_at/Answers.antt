@@ -1,5 +1,5 @@
 use Rattle.std.proofs.Common.{ap, rules}
-use Rattle.big_steps.proofs.Starved.{other_full}
+use Rattle.whole_commands.proofs.Starved.{other_full}
 use Rattle.device_list.specs.Tables.{table_of}
 use Rattle.device_list.specs.Backed.{Backed}
 use Rattle.device_list.proofs.Showing.{shown_at, shown_in, shown_inside, shown_set}

@@ -1,9 +1,9 @@
-use Rattle.command_rules.specs.Naming.{AreNamed}
-use Rattle.command_rules.specs.Messages.{told_at}
-use Rattle.command_rules.specs.declared.place.Place.TheVariants.{Free, In}
-use Rattle.command_rules.proofs.Keeping.{steps_keep}
-use Rattle.command_rules.proofs.NamedRules.{told_at_named}
-use Rattle.command_rules.proofs.SoundRules.{IsSound, told_at_sound}
+use Rattle.command_semantics.specs.Naming.{AreNamed}
+use Rattle.command_semantics.specs.Messages.{told_at}
+use Rattle.command_semantics.specs.declared.place.Place.TheVariants.{Free, In}
+use Rattle.command_semantics.proofs.Keeping.{steps_keep}
+use Rattle.command_semantics.proofs.NamedRules.{told_at_named}
+use Rattle.command_semantics.proofs.SoundRules.{IsSound, told_at_sound}
 use Rattle.device_list.specs.Tables.{table_of}
 use Rattle.device_commands.proofs.messages.tell.Goals as goal
 

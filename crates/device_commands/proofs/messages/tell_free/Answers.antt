@@ -1,5 +1,5 @@
 use Rattle.device_list.specs.Tables.{table_of}
-use Rattle.command_rules.proofs.InTable.{told_free_at}
+use Rattle.command_semantics.proofs.InTable.{told_free_at}
 use Rattle.device_commands.proofs.messages.tell_free.Goals as goal
 
 pub returns : goal.returns

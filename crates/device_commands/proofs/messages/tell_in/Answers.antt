@@ -1,5 +1,5 @@
 use Rattle.device_list.specs.Tables.{table_of}
-use Rattle.command_rules.proofs.InTable.{told_in_at}
+use Rattle.command_semantics.proofs.InTable.{told_in_at}
 use Rattle.device_list.proofs.Showing.{shown_at, shown_inside, shown_set}
 use Rattle.device_commands.proofs.messages.tell_in.Goals as goal
 

@@ -1,5 +1,5 @@
-use Rattle.command_rules.proofs.AtPlace.{map_step}
-use Rattle.command_rules.specs.Messages.{stack_ticked}
+use Rattle.command_semantics.proofs.AtPlace.{map_step}
+use Rattle.command_semantics.specs.Messages.{stack_ticked}
 use Rattle.device_commands.proofs.messages.tick_stacks.Goals as goal
 
 pub loop-stack-preserved : goal.loop-stack-preserved

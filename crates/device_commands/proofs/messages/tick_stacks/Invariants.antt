@@ -1,5 +1,5 @@
 use Rattle.std.proofs.Common.{◌≡◌, ◌++◌, map, take, drop}
-use Rattle.command_rules.specs.Messages.{stack_ticked}
+use Rattle.command_semantics.specs.Messages.{stack_ticked}
 use Rattle.device_commands.proofs.messages.tick_stacks.Given as goal
 
 abbrev pub invariant-loop-stack : goal.invariant-loop-stack

@@ -1,7 +1,7 @@
 use Rattle.std.proofs.Common.{ap, sym, ◌∙◌}
 use Rattle.std.proofs.Math.ListN.{get_or-map}
-use Rattle.command_rules.proofs.AtPlace.{map_step}
-use Rattle.command_rules.specs.Messages.{volume_ticked}
+use Rattle.command_semantics.proofs.AtPlace.{map_step}
+use Rattle.command_semantics.specs.Messages.{volume_ticked}
 use Rattle.device_list.specs.Backed.{Backed}
 use Rattle.device_list.proofs.Showing.{shown_in, shown_set, shown_within}
 use Rattle.device_commands.proofs.messages.tick_volumes.Goals as goal

@@ -1,5 +1,5 @@
 use Rattle.std.proofs.Common.{◌≡◌, ◌++◌, map, take, drop}
-use Rattle.command_rules.specs.Messages.{volume_ticked}
+use Rattle.command_semantics.specs.Messages.{volume_ticked}
 use Rattle.device_list.proofs.Showing.{shown_in}
 use Rattle.device_commands.proofs.messages.tick_volumes.Given as goal
 

@@ -1,4 +1,4 @@
-use Rattle.command_rules.proofs.AtPlace.{volume_here}
+use Rattle.command_semantics.proofs.AtPlace.{volume_here}
 use Rattle.device_list.specs.Tables.{table_of}
 use Rattle.device_list.proofs.Showing.{shown_at, shown_inside}
 use Rattle.device_commands.proofs.Orders.{in_order}

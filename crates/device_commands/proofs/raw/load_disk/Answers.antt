@@ -1,12 +1,12 @@
 use Rattle.std.proofs.Common.{rules, refl, sym, ap, ◌∙◌}
 use Rattle.std.specs.Prelude.{Ok}
-use Rattle.command_rules.specs.Naming.{AreNamed}
-use Rattle.command_rules.specs.Raw.{whole}
-use Rattle.command_rules.specs.declared.place.Place.{Place}
-use Rattle.command_rules.specs.declared.place.Place.TheVariants.{Free}
-use Rattle.command_rules.proofs.Keeping.{changes_keep}
-use Rattle.command_rules.proofs.NamedRules.{loaded_at_named}
-use Rattle.command_rules.proofs.SoundRules.{IsSound, loaded_at_sound}
+use Rattle.command_semantics.specs.Naming.{AreNamed}
+use Rattle.command_semantics.specs.Raw.{whole}
+use Rattle.command_semantics.specs.declared.place.Place.{Place}
+use Rattle.command_semantics.specs.declared.place.Place.TheVariants.{Free}
+use Rattle.command_semantics.proofs.Keeping.{changes_keep}
+use Rattle.command_semantics.proofs.NamedRules.{loaded_at_named}
+use Rattle.command_semantics.proofs.SoundRules.{IsSound, loaded_at_sound}
 use Rattle.device_list.specs.Tables.{table_of}
 use Rattle.device_list.proofs.Showing.{shown_at, shown_inside}
 use Rattle.device_commands.proofs.InVolume.{load_refused}

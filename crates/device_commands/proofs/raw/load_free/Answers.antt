@@ -1,5 +1,5 @@
 use Rattle.device_list.specs.Tables.{table_of}
-use Rattle.command_rules.proofs.InTable.{loaded_at_free}
+use Rattle.command_semantics.proofs.InTable.{loaded_at_free}
 use Rattle.device_commands.proofs.raw.load_free.Goals as goal
 
 pub returns : goal.returns

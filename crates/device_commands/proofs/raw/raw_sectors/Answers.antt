@@ -5,7 +5,7 @@ use Rattle.sector.specs.Bytes.{sectors_at}
 use Rattle.sector.proofs.Sectors.{written_back}
 use Rattle.device.specs.Disk.{disk_contents}
 use Rattle.device.specs.Laws.{disk_whole}
-use Rattle.command_rules.specs.Raw.{fits}
+use Rattle.command_semantics.specs.Raw.{fits}
 use Rattle.device_commands.proofs.raw.raw_sectors.Goals as goal
 
 pub returns : goal.returns

@@ -1,11 +1,11 @@
 use Rattle.std.specs.Prelude.{Ok}
-use Rattle.command_rules.specs.Naming.{AreNamed}
-use Rattle.command_rules.specs.Origins.{closed}
-use Rattle.command_rules.specs.Removing.{lowered}
-use Rattle.command_rules.specs.Snapshots.{left_by}
-use Rattle.command_rules.proofs.Keeping.{changes_keep, enters_keep}
-use Rattle.command_rules.proofs.NamedRules.{closed_named, left_by_named, lowered_top_named}
-use Rattle.command_rules.proofs.SoundRules.{IsSound, lowered_sound}
+use Rattle.command_semantics.specs.Naming.{AreNamed}
+use Rattle.command_semantics.specs.Origins.{closed}
+use Rattle.command_semantics.specs.Removing.{lowered}
+use Rattle.command_semantics.specs.Snapshots.{left_by}
+use Rattle.command_semantics.proofs.Keeping.{changes_keep, enters_keep}
+use Rattle.command_semantics.proofs.NamedRules.{closed_named, left_by_named, lowered_top_named}
+use Rattle.command_semantics.proofs.SoundRules.{IsSound, lowered_sound}
 use Rattle.device_list.specs.Tables.{table_of}
 use Rattle.device_commands.proofs.remove.remove_device.Goals as goal
 

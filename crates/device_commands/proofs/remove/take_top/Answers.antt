@@ -1,7 +1,7 @@
 use Rattle.std.proofs.Common.{sym, ap, ◌∙◌, List}
 use Rattle.std.specs.Prelude.{Result, Ok}
 use Rattle.sector.specs.declared.refusal.Refusal.{Refusal}
-use Rattle.command_rules.specs.State.{Stacked, Table}
+use Rattle.command_semantics.specs.State.{Stacked, Table}
 use Rattle.device_list.specs.Tables.{table_of}
 use Rattle.device_stacks.proofs.Below.{lowered_some, lowered_none, nothing_left}
 use Rattle.device_list.proofs.Showing.{shown_in}

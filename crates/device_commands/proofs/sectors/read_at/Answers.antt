@@ -1,9 +1,9 @@
 use Rattle.std.proofs.Common.{◌≡◌, ◌∙◌}
 use Rattle.std.specs.Prelude.{Err, false, true}
 use Rattle.device_list.specs.Tables.{table_of}
-use Rattle.command_rules.specs.Sectors.{asked_of, IsReadAsked, read_in}
-use Rattle.command_rules.proofs.NamedFrames.{put_volume_named}
-use Rattle.command_rules.proofs.SoundFrames.{of_both, put_volume_sound, volume_quiet, volume_sound}
+use Rattle.command_semantics.specs.Sectors.{asked_of, IsReadAsked, read_in}
+use Rattle.command_semantics.proofs.NamedFrames.{put_volume_named}
+use Rattle.command_semantics.proofs.SoundFrames.{of_both, put_volume_sound, volume_quiet, volume_sound}
 use Rattle.device_list.specs.Names.{KeepsNames}
 use Rattle.device_list.specs.Flights.{IsReadAtRest, IsReadServed, ReadsAmong, ReadsAtRest}
 use Rattle.device_list.proofs.Showing.{asked_done, shown_at, shown_inside, shown_set, still_shown}

@@ -1,7 +1,7 @@
 use Rattle.std.proofs.Common.{◌≡◌, ◌≤◌, ◌+◌, ◌++◌, length, map, take}
 use Rattle.std.specs.Prelude.{vec_len, vec_capacity}
 use Rattle.layers.specs.Stack.{stack_durable}
-use Rattle.command_rules.specs.Losing.{lasting}
+use Rattle.command_semantics.specs.Losing.{lasting}
 use Rattle.device_commands.proofs.Loses.{IsGoing}
 use Rattle.device_commands.proofs.stopping.free_lost.Given as goal
 

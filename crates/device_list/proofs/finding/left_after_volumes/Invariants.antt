@@ -1,6 +1,6 @@
 use Rattle.std.proofs.Common.{◌≡◌, ◌-◌, drop}
 use Rattle.std.specs.Prelude.{sum_by}
-use Rattle.command_rules.specs.Disks.{devices_in}
+use Rattle.command_semantics.specs.Disks.{devices_in}
 use Rattle.device_list.proofs.finding.left_after_volumes.Given as goal
 
 abbrev pub invariant-loop-volume : goal.invariant-loop-volume

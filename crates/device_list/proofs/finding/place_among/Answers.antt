@@ -1,6 +1,6 @@
 -- The first volume that has the name.
 use Rattle.std.proofs.Common.{rules, ◌≡◌, ◌<◌, ◌≤◌, Some, length, get_or, sym, refl}
-use Rattle.command_rules.specs.Places.{role_of}
+use Rattle.command_semantics.specs.Places.{role_of}
 use Rattle.device_list.proofs.Firsts.{found_here, found_nowhere}
 use Rattle.device_list.proofs.Showing.{shown_there, shown_within}
 use Rattle.device_list.proofs.finding.place_among.Goals as goal

@@ -2,7 +2,7 @@
 use Rattle.std.proofs.Common.{◌≡◌, ◌+◌, drop}
 use Rattle.std.specs.Prelude.{is_some}
 use Rattle.std.specs.List.{position_or_len}
-use Rattle.command_rules.specs.Places.{role_of}
+use Rattle.command_semantics.specs.Places.{role_of}
 use Rattle.device_list.proofs.finding.place_among.Given as goal
 
 abbrev pub invariant-loop-v : goal.invariant-loop-v

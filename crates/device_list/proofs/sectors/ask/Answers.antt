@@ -1,9 +1,9 @@
 use Rattle.std.proofs.Common.{◌≡◌, ℕ, ap, sym, ◌∙◌, refl, subst, arith}
 use Rattle.std.specs.Prelude.{Ok, Err}
 use Rattle.layers.specs.declared.stack.Stack.{Stack}
-use Rattle.big_steps.specs.Devices.{sectors_of}
-use Rattle.command_rules.specs.Raw.{fits}
-use Rattle.command_rules.specs.Stacks.{device_of}
+use Rattle.whole_commands.specs.Devices.{sectors_of}
+use Rattle.command_semantics.specs.Raw.{fits}
+use Rattle.command_semantics.specs.Stacks.{device_of}
 use Rattle.layers.specs.Stack.{stack_size}
 use Rattle.device_stacks.proofs.StackSizes.{size_of}
 use Rattle.device_list.specs.Held.{settled_in}

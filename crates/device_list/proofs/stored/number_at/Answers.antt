@@ -1,6 +1,6 @@
 use Rattle.std.proofs.Common.{sym, ap, ◌∙◌}
 use Rattle.layers.specs.declared.stack.Stack.{Stack}
-use Rattle.big_steps.specs.Snaps.{Snap}
+use Rattle.whole_commands.specs.Snaps.{Snap}
 use Rattle.volume_commands.specs.Rested.{Attached}
 use Rattle.device_list.proofs.Places.{at_place}
 use Rattle.device_list.proofs.stored.number_at.Goals as goal

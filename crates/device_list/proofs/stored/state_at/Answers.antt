@@ -5,7 +5,7 @@ use Rattle.plain_machine.specs.Plain.{did_overflow}
 use Rattle.snapshot.specs.Kept.{Kept}
 use Rattle.volume_commands.specs.Rested.{Attached}
 use Rattle.volume_commands.specs.Using.{IsInUse, IsUsed}
-use Rattle.command_rules.specs.Status.{state_of}
+use Rattle.command_semantics.specs.Status.{state_of}
 use Rattle.device_list.specs.Status.{state_kept}
 use Rattle.device_list.proofs.Places.{at_place}
 use Rattle.device_list.proofs.Statuses.{attached_there, invalid_kept, kept_there, overflow_kept, used_kept}

@@ -1,8 +1,8 @@
 use Rattle.std.proofs.Common.{sym, ap, ◌∙◌}
 use Rattle.layers.specs.declared.stack.Stack.{Stack}
-use Rattle.big_steps.specs.Snaps.{Snap}
+use Rattle.whole_commands.specs.Snaps.{Snap}
 use Rattle.volume_commands.specs.Rested.{Attached}
-use Rattle.command_rules.specs.Stacks.{device_of}
+use Rattle.command_semantics.specs.Stacks.{device_of}
 use Rattle.device_list.proofs.Places.{at_place}
 use Rattle.device_list.proofs.stored.store_at.Goals as goal
 

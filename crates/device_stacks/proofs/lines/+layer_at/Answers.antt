@@ -1,8 +1,8 @@
 use Rattle.std.proofs.Common.{◌≡◌, sym, ap, subst, arith}
 use Rattle.std.specs.Prelude.{Option, Some, None, IfSome, IfNone}
 use Rattle.layers.specs.Stack.{below_of}
-use Rattle.big_steps.specs.Devices.{Device}
-use Rattle.command_rules.specs.Stacks.{device_of}
+use Rattle.whole_commands.specs.Devices.{Device}
+use Rattle.command_semantics.specs.Stacks.{device_of}
 use Rattle.device_stacks.proofs.Below.{below_at}
 use Rattle.device_stacks.proofs.lines.+layer_at.Goals as goal
 

@@ -1,6 +1,6 @@
 use Rattle.std.proofs.Common.{◌≡◌, ◌++◌, drop}
-use Rattle.command_rules.specs.Listing.{items_from, stack_items}
-use Rattle.command_rules.specs.Stacks.{device_of}
+use Rattle.command_semantics.specs.Listing.{items_from, stack_items}
+use Rattle.command_semantics.specs.Stacks.{device_of}
 use Rattle.device_stacks.proofs.listing.add_stack.Given as goal
 
 abbrev pub invariant-loop-depth : goal.invariant-loop-depth

@@ -1,5 +1,5 @@
 use Rattle.std.proofs.Common.{◌≡◌, drop}
-use Rattle.store_bytes.specs.Picture.{place_of}
+use Rattle.cow_format.specs.Picture.{place_of}
 use Rattle.exception_arena.proofs.plain.find.Given as goal
 
 abbrev pub invariant-loop-pair : goal.invariant-loop-pair

@@ -4,7 +4,7 @@ use Rattle.std.proofs.lemmas.List.{length-map}
 use Rattle.in_flight.specs.Kinds.{in_flight}
 use Rattle.snapshot.specs.Kept.{Kept}
 use Rattle.volume.specs.Volumed.{Volumed}
-use Rattle.audit.specs.Seats.{flight_in}
+use Rattle.audited_volume.specs.Seats.{flight_in}
 use Rattle.locked_volume.proofs.under_lock.look_at_bounds.Goals as goal
 
 pub returns-clause-held : goal.returns-clause-held

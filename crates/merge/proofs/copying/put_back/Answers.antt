@@ -1,6 +1,6 @@
 use Rattle.std.proofs.Common.{◌≡◌, ◌≤◌, ℕ, arith, ap, ◌∙◌, ◌+◌, ◌*◌, length, take}
 use Rattle.std.proofs.lemmas.List.{length-take-le}
-use Rattle.stop_laws.proofs.Firm.{adds_answered}
+use Rattle.crash_laws.proofs.Firm.{adds_answered}
 use Rattle.in_flight.specs.Copies.{count_of}
 use Rattle.merge.proofs.copying.put_back.Goals as goal
 

@@ -1,7 +1,7 @@
 -- The exports so far are the origin's and those of the snapshots so far.
 use Rattle.std.proofs.Common.{◌≡◌, ◌∷◌, ◌*◌, [], codes, map, take}
 use Rattle.plain_machine.specs.declared.request.Dev.TheVariants.{Origin, Snap}
-use Rattle.serve_words.specs.Exports.{last_part}
+use Rattle.serve_options.specs.Exports.{last_part}
 use Rattle.serve_commands.proofs.exports.exports_of.Given as goal
 
 abbrev pub invariant-loop-snap : goal.invariant-loop-snap

@@ -4,13 +4,13 @@ use Rattle.std.proofs.lemmas.List.{append-nil}
 use Rattle.sector.specs.Bytes.{sector_at}
 use Rattle.sector.specs.declared.pair.Pair.{Pair}
 use Rattle.cow_header.specs.HeaderText.{found_in}
-use Rattle.store_bytes.specs.NextPlace.{IsNextPlace}
+use Rattle.cow_format.specs.NextPlace.{IsNextPlace}
 use Rattle.exception_arena.specs.Pending.{pairs}
 use Rattle.device.specs.Layers.{is_loud}
-use Rattle.store_bytes.specs.Pairs.{pairs_of}
-use Rattle.store_bytes.specs.Places.{slot}
-use Rattle.loss_laws.proofs.Slots.{rest_of}
-use Rattle.store_bytes.specs.Picture.{picture}
+use Rattle.cow_format.specs.Pairs.{pairs_of}
+use Rattle.cow_format.specs.Places.{slot}
+use Rattle.cache_loss_laws.proofs.Slots.{rest_of}
+use Rattle.cow_format.specs.Picture.{picture}
 use Rattle.store.specs.declared.state.Left.TheVariants.{Nothing}
 use Rattle.store.specs.declared.state.State.{State}
 use Rattle.store.specs.Held.{committed, pending}
@@ -20,8 +20,8 @@ use Rattle.snapshot.specs.Kept.{Kept}
 use Rattle.snapshot.specs.StopsOpening.{Leaves, MayOpen, MayPrepareAll}
 use Rattle.snapshot.specs.Opening.{ChangesFront, IsOpenedAs, prepared}
 use Rattle.sector.specs.declared.refusal.Refusal.TheVariants.{Io as IoRefusal}
-use Rattle.big_steps.specs.Attaching.{done, refuse}
-use Rattle.big_steps.specs.Devices.{Device}
+use Rattle.whole_commands.specs.Attaching.{done, refuse}
+use Rattle.whole_commands.specs.Devices.{Device}
 use Rattle.snapshot.specs.Attaching.{device_of, writes_by}
 use Rattle.snapshot.proofs.Loads.{origin_goes}
 use Rattle.snapshot.proofs.Leaves.{leaves_same, leaves_then, may_open}

@@ -3,8 +3,8 @@ use Rattle.std.proofs.Common.{◌≡◌, ◌∙◌, length, subst, sym}
 use Rattle.store.specs.Held.{committed}
 use Rattle.store.specs.Opening.{IsRefused}
 use Rattle.store.proofs.FirstReads.{ended_reads}
-use Rattle.big_steps.proofs.FaultlessAttaching.{size_of}
-use Rattle.big_steps.specs.Devices.{sectors_of}
+use Rattle.whole_commands.proofs.FaultlessAttaching.{size_of}
+use Rattle.whole_commands.specs.Devices.{sectors_of}
 use Rattle.snapshot.specs.Attaching.{device_of}
 use Rattle.snapshot.proofs.Openings.{opened_by}
 use Rattle.snapshot.proofs.Tries.{back_by, goes_by}

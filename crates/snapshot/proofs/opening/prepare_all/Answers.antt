@@ -1,4 +1,4 @@
--- A load goes operation by operation as `big_steps` has it, and stops as its writes do.
+-- A load goes operation by operation as `whole_commands` has it, and stops as its writes do.
 use Rattle.std.proofs.Common.{◌≡◌, ◌∙◌, ap, subst, sym, true, false}
 use Rattle.std.proofs.lemmas.Bool.{cond-true}
 use Rattle.device.specs.Layers.{is_loud}
@@ -6,7 +6,7 @@ use Rattle.store.specs.Held.{committed}
 use Rattle.store.specs.Loading.{after_write, is_left}
 use Rattle.store.specs.Stopping.{MayPrepare}
 use Rattle.store.specs.declared.state.State.{State}
-use Rattle.big_steps.specs.Attaching.{done}
+use Rattle.whole_commands.specs.Attaching.{done}
 use Rattle.snapshot.specs.Attaching.{device_of}
 use Rattle.snapshot.specs.StopsOpening.{Leaves, MayPrepareAll}
 use Rattle.snapshot.proofs.Loads.{flush_goes, flush_stays, front_like, front_more, front_of, prepared_is, then_by, then_last, then_next, then_none}

@@ -1,5 +1,5 @@
 use Rattle.std.proofs.Common.{◌≡◌, arith, ◌+◌, ◌*◌}
-use Rattle.stop_laws.proofs.Firm.{adds_answered}
+use Rattle.crash_laws.proofs.Firm.{adds_answered}
 use Rattle.store.proofs.Areas.{only_inside}
 use Rattle.store.proofs.chunks.write_part.Goals as goal
 

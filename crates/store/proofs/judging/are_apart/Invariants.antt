@@ -1,6 +1,6 @@
 use Rattle.std.proofs.Common.{ℕ, ◌<◌, get_or}
 use Rattle.sector.specs.declared.pair.Pair.{Pair}
-use Rattle.store_bytes.specs.Pairs.{IsApart}
+use Rattle.cow_format.specs.Pairs.{IsApart}
 use Rattle.store.specs.Stored.{old_of, new_of}
 use Rattle.store.proofs.Marks.{AreMarked}
 use Rattle.store.proofs.judging.are_apart.Given as goal

@@ -1,7 +1,7 @@
 use Rattle.std.proofs.Common.{inl, inr, ◌<◌, ◌≤◌, ◌+◌, ◌*◌, ◌∙◌, arith, ap, sym}
 use Rattle.std.proofs.lemmas.Result.{err_from_is_err_and}
-use Rattle.store_bytes.specs.Places.{area_place, chunk_at}
-use Rattle.stop_laws.proofs.Firm.{adds_then}
+use Rattle.cow_format.specs.Places.{area_place, chunk_at}
+use Rattle.crash_laws.proofs.Firm.{adds_then}
 use Rattle.store.proofs.Loads.{prefix_more, pairs-loaded, prefix_lacks, prefix_low, area_far}
 use Rattle.store.proofs.AreaReads.{area_read, area_fails, area_lacks, pairs_read, areas_are_read}
 use Rattle.store.proofs.loading.read_areas.Goals as goal

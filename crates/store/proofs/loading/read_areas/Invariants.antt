@@ -1,6 +1,6 @@
 use Rattle.std.proofs.Common.{◌≡◌}
 use Rattle.device.specs.Layers.{is_loud}
-use Rattle.stop_laws.specs.Firm.{AddsNow}
+use Rattle.crash_laws.specs.Firm.{AddsNow}
 use Rattle.store.specs.Loaded.{IsPrefix}
 use Rattle.store.specs.Reading.{read_areas, all_read}
 use Rattle.store.proofs.loading.read_areas.Given as goal

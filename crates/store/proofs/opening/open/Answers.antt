@@ -1,7 +1,7 @@
 use Rattle.std.proofs.Common.{inl, inr, ◌∙◌, Ok, ap, sym, subst, arith}
 use Rattle.sector.specs.declared.refusal.Refusal.{Refusal}
-use Rattle.stop_laws.specs.Firm.{AddsNow}
-use Rattle.stop_laws.proofs.Firm.{adds_then}
+use Rattle.crash_laws.specs.Firm.{AddsNow}
+use Rattle.crash_laws.proofs.Firm.{adds_then}
 use Rattle.cow_header.specs.declared.found.Found.TheVariants.{Header}
 use Rattle.store.specs.Opening.{IsRefused}
 use Rattle.store.specs.Reading.{all_read, read_pairs, reading}

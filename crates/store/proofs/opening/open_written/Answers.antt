@@ -3,7 +3,7 @@ use Rattle.std.proofs.lemmas.List.{nil_from_length}
 use Rattle.std.specs.Prelude.{AllPairs}
 use Rattle.std.specs.List.{All}
 use Rattle.sector.specs.declared.pair.Pair.{Pair}
-use Rattle.store_bytes.specs.Pairs.{pairs_of, IsApart, IsInside}
+use Rattle.cow_format.specs.Pairs.{pairs_of, IsApart, IsInside}
 use Rattle.chunk_alloc.specs.Greatest.{IsGreatest}
 use Rattle.exception_arena.specs.declared.begun.Begun.{Begun}
 use Rattle.exception_arena.specs.Pending.{pairs}

@@ -2,7 +2,7 @@
 use Rattle.std.proofs.Common.{◌≡◌, ◌*◌, length, arith}
 use Rattle.chunk.specs.Pieces.{span_of}
 use Rattle.chunk.proofs.Runs.{first_piece, stands_first, stands_next, stands_last}
-use Rattle.big_steps.proofs.PictureSectors.{read_next, read_all}
+use Rattle.whole_commands.proofs.PictureSectors.{read_next, read_all}
 use Rattle.volume.proofs.Listed.{length-listed}
 use Rattle.volume.proofs.peeking.peek_merged.Goals as goal
 

@@ -1,8 +1,8 @@
 -- A piece of a chunk with a copy is the store's, every other the origin's.
 use Rattle.std.proofs.Common.{◌≡◌, ◌+◌, ◌*◌, ◌/◌, ◌%◌, ◌<◌, Some, None, ap, ◌∙◌, sym, arith}
 use Rattle.sector.specs.Bytes.{sectors_at}
-use Rattle.store_bytes.specs.Picture.{place_of}
-use Rattle.big_steps.proofs.PictureSectors.{one_of}
+use Rattle.cow_format.specs.Picture.{place_of}
+use Rattle.whole_commands.proofs.PictureSectors.{one_of}
 use Rattle.volume.proofs.Listed.{listed_plain, listed_copied, place_by}
 use Rattle.volume.proofs.Peeked.{place_low, place_high}
 use Rattle.volume.proofs.peeking.peek_piece.Goals as goal

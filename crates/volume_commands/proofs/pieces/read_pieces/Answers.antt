@@ -7,8 +7,8 @@ use Rattle.plain_machine.specs.declared.request.Op.TheVariants.{Read}
 use Rattle.plain_machine.specs.declared.request.Reply.{Reply}
 use Rattle.plain_machine.specs.declared.request.Reply.TheVariants.{Data}
 use Rattle.chunk.proofs.Runs.{StandsAt, first_piece, stands_first, stands_next, stands_last}
-use Rattle.big_steps.specs.Beside.{read_beside}
-use Rattle.big_steps.specs.Commands.{bytes_in}
+use Rattle.whole_commands.specs.Beside.{read_beside}
+use Rattle.whole_commands.specs.Commands.{bytes_in}
 use Rattle.volume.specs.Volumed.{piece_with}
 use Rattle.volume_commands.specs.Rested.{rested_of, merged_of, IsSettled}
 use Rattle.volume_commands.specs.AtRest.{AreReadAtRest, IsPieceAnswered, IsPieceUndone, IsReadUndone}

@@ -3,7 +3,7 @@ use Rattle.std.proofs.Common.{◌∙◌, Some, None, ap, arith, inl, inr, refl, 
 use Rattle.sector.specs.declared.refusal.Refusal.{Refusal}
 use Rattle.plain_machine.specs.declared.request.Reply.TheVariants.{Refused}
 use Rattle.plain_machine.specs.declared.request.Failure.TheVariants.{Invalid, Overflow}
-use Rattle.big_steps.specs.Refusals.{is_starved}
+use Rattle.whole_commands.specs.Refusals.{is_starved}
 use Rattle.volume.specs.Leaving.{has_group_in}
 use Rattle.volume.specs.Submitting.{IsRefusedAs}
 use Rattle.volume.proofs.Quieted.{quiet_free}

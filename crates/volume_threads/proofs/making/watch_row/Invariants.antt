@@ -1,6 +1,6 @@
 -- So many volumes have their passes.
 use Rattle.std.proofs.Common.{◌≡◌, ◌<◌, ℕ, List, length, slice_index_or}
-use Rattle.between_threads.specs.BoardPasses.{Seen}
+use Rattle.thread_channels.specs.BoardPasses.{Seen}
 use Rattle.locked_volume.specs.Boards.{AreReaders}
 use Rattle.volume_threads.proofs.making.watch_row.Given as goal
 

@@ -2,7 +2,7 @@
 use Rattle.std.proofs.Common.{◌<◌, List, [], ◌∷◌, ◌++◌, length, sym, ap, ◌∙◌, subst}
 use Rattle.locked_volume.proofs.Begins.{begins_then}
 use Rattle.locked_volume.specs.Beside.{IsBeside}
-use Rattle.audit.specs.declared.entry.Receipt.{Receipt}
+use Rattle.audited_volume.specs.declared.entry.Receipt.{Receipt}
 use Rattle.volume_threads.proofs.turns.make.Goals as goal
 
 pub issue-requires-clause-beside : goal.issue-requires-clause-beside

@@ -1,6 +1,6 @@
 use Rattle.std.proofs.Common.{◌+◌, ◌*◌, ◌/◌}
-use Rattle.store_bytes.proofs.AreaPlaces.{place_is}
-use Rattle.store_bytes.proofs.NextPlaces.{next-loaded}
+use Rattle.cow_format.proofs.AreaPlaces.{place_is}
+use Rattle.cow_format.proofs.NextPlaces.{next-loaded}
 use Rattle.chunk_alloc.proofs.Ahead.{loaded_after}
 use Rattle.chunk_alloc.proofs.alloc.Alloc.after_load.Goals as goal
 

@@ -1,5 +1,5 @@
-use Rattle.store_bytes.specs.Places.{area_place}
-use Rattle.store_bytes.proofs.AreaPlaces.{place_is}
+use Rattle.cow_format.specs.Places.{area_place}
+use Rattle.cow_format.proofs.AreaPlaces.{place_is}
 use Rattle.chunk_alloc.proofs.Ahead.{area_then}
 use Rattle.chunk_alloc.proofs.Small.{copies_free}
 use Rattle.chunk_alloc.proofs.alloc.Alloc.after_merge.Goals as goal

@@ -1,7 +1,7 @@
 use Rattle.std.proofs.Common.{arith, ℕ, ◌+◌, ◌*◌, ◌≤◌, ◌++◌, ◌∷◌, [], refl, subst, sym}
-use Rattle.store_bytes.specs.NextPlace.{IsNextPlace}
+use Rattle.cow_format.specs.NextPlace.{IsNextPlace}
 use Rattle.chunk_alloc.proofs.Ahead.{area_then, stepped_over, stepped_same}
-use Rattle.store_bytes.proofs.NextPlaces.{place_small, stepped_near, next-taken}
+use Rattle.cow_format.proofs.NextPlaces.{place_small, stepped_near, next-taken}
 use Rattle.chunk_alloc.proofs.alloc.Alloc.take.Goals as goal
 
 pub invariant_of-self-clause-near : goal.invariant_of-self-clause-near

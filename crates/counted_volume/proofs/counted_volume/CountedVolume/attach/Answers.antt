@@ -3,8 +3,8 @@ use Rattle.std.proofs.Common.{◌∙◌, ◌+◌, refl, ap, arith, inr}
 use Rattle.snapshot.specs.Opening.{shown_array}
 use Rattle.volume.specs.Fresh.{is_fresh}
 use Rattle.volume.specs.Volumed.{is_loud_in_all}
-use Rattle.audit.specs.PlacesTaken.{places_for}
-use Rattle.audit.proofs.Fresh.{fresh_taken}
+use Rattle.audited_volume.specs.PlacesTaken.{places_for}
+use Rattle.audited_volume.proofs.Fresh.{fresh_taken}
 use Rattle.counted_volume.specs.Places.{Counted, kept_for_marks, kept_for_snaps}
 use Rattle.counted_volume.proofs.Fewer.{gained_have}
 use Rattle.counted_volume.proofs.JournalGoing.{gained_goes_on}

@@ -1,7 +1,7 @@
 -- There is a place for each live snapshot, and nothing is in flight.
 use Rattle.std.proofs.Common.{◌≤◌, ◌∙◌, length, ap, arith}
 use Rattle.volume.specs.Volumed.{Volumed}
-use Rattle.audit.specs.Earned.{AreEarned}
+use Rattle.audited_volume.specs.Earned.{AreEarned}
 use Rattle.counted_volume.proofs.Fewer.{none_flying, quiet_have, quiet_places}
 use Rattle.counted_volume.proofs.counted_volume.CountedVolume.of_audit.Goals as goal
 

@@ -7,7 +7,7 @@ use Rattle.plain_machine.specs.declared.event.NotDue.{NotDue}
 use Rattle.plain_machine.specs.declared.event.Outcome.{Outcome}
 use Rattle.volume.specs.DoesStep.{DoesStep}
 use Rattle.volume.specs.Volumed.{Volumed, is_loud_in_all, plain_of}
-use Rattle.audit.specs.declared.entry.Entry.{Entry}
+use Rattle.audited_volume.specs.declared.entry.Entry.{Entry}
 use Rattle.counted_volume.specs.GoingOn.{ComesTo, GoesOn}
 use Rattle.counted_volume.specs.Places.{HasPlaces}
 use Rattle.counted_volume.proofs.Earns.{stepped_many}

@@ -1,5 +1,5 @@
 use Rattle.std.proofs.Common.{◌≡◌, ℕ, Bool}
-use Rattle.nbd_server.specs.Blocks.{marked_for}
+use Rattle.nbd_read_session.specs.Blocks.{marked_for}
 use Rattle.cow_nbd.proofs.Arrays.{known_marks}
 use Rattle.cow_nbd.proofs.pictures.PicturesServed.marks.Goals as goal
 

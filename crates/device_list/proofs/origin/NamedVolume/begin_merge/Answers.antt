@@ -4,14 +4,14 @@ use Rattle.std.specs.List.{remove}
 use Rattle.std.proofs.lemmas.List.Edits.{length-remove}
 use Rattle.std.proofs.lemmas.Option.{slice_get_read}
 use Rattle.layers.specs.declared.stack.Stack.{Stack}
-use Rattle.big_steps.specs.Refusals.{is_starved}
+use Rattle.whole_commands.specs.Refusals.{is_starved}
 use Rattle.merge.specs.Merging.{Merging}
 use Rattle.device_list.specs.Held.{merging_with}
 use Rattle.device_list.proofs.Begins.{begun_once, begun_is, none_of, not_begun, alike_state, alike_merging, alike_flying}
 use Rattle.device_list.proofs.Merges.{begun_too, names_are}
 use Rattle.device_list.proofs.Parts.{no_both}
 use Rattle.device_list.proofs.Places.{here}
-use Rattle.command_rules.specs.State.{Volume}
+use Rattle.command_semantics.specs.State.{Volume}
 use Rattle.device_list.specs.Asked.{has_asked_much}
 use Rattle.device_list.proofs.Filled.{asked_err}
 use Rattle.device_list.proofs.origin.NamedVolume.begin_merge.Goals as goal

@@ -1,8 +1,8 @@
 use Rattle.std.proofs.Common.{◌≡◌, length, get_or, refl, ap, ◌∙◌, arith, inl, inr}
 use Rattle.std.specs.List.{remove}
 use Rattle.std.proofs.lemmas.List.Edits.{length-remove}
-use Rattle.command_rules.specs.State.{Names, Stacked}
-use Rattle.command_rules.specs.Stacks.{device_of}
+use Rattle.command_semantics.specs.State.{Names, Stacked}
+use Rattle.command_semantics.specs.Stacks.{device_of}
 use Rattle.device_list.proofs.Merges.{begun_as_before, merging_as_before}
 use Rattle.device_list.proofs.Places.{at_place, dev_there}
 use Rattle.device_list.proofs.Parts.{no_both, parted_is, parted_not, given_loud}

@@ -3,7 +3,7 @@ use Rattle.std.proofs.Common.{length, sym, ap, ◌∙◌, arith}
 use Rattle.std.proofs.lemmas.Bool.{cond-true, cond-false}
 use Rattle.std.specs.Prelude.{is_some}
 use Rattle.device_list.specs.Backed.{Backed}
-use Rattle.command_rules.specs.Stopping.{stores_left}
+use Rattle.command_semantics.specs.Stopping.{stores_left}
 use Rattle.device_list.proofs.Stops.{left_count}
 use Rattle.device_list.proofs.origin.NamedVolume.devices.Goals as goal
 use Rattle.device_list.proofs.origin.NamedVolume.devices.Goals.{in-None, in-Some}

@@ -1,7 +1,7 @@
 use Rattle.std.proofs.Common.{◌≡◌, Some, refl, sym, ap, ◌∙◌, arith, inl, inr}
 use Rattle.std.specs.Prelude.{Option}
 use Rattle.volume.specs.Leaving.{is_quiet_of}
-use Rattle.command_rules.specs.State.{Names, Stacked, names_in}
+use Rattle.command_semantics.specs.State.{Names, Stacked, names_in}
 use Rattle.device_list.specs.Held.{merging_with}
 use Rattle.device_list.proofs.Events.{behind}
 use Rattle.device_list.proofs.Finishes.{finished_is, same_state, unfinished_is, unfinished_served}

@@ -1,6 +1,6 @@
 use Rattle.std.proofs.Common.{◌≡◌, Some, sym, ap, ◌∙◌}
 use Rattle.std.specs.Prelude.{Option, is_some}
-use Rattle.command_rules.specs.State.{Names}
+use Rattle.command_semantics.specs.State.{Names}
 use Rattle.device_list.specs.Held.{merging_with}
 use Rattle.device_list.proofs.Merges.{names_stand}
 use Rattle.device_list.proofs.origin.NamedVolume.line_of_origin.Goals as goal

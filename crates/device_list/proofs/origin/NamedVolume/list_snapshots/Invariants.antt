@@ -1,5 +1,5 @@
 use Rattle.std.proofs.Common.{◌≡◌, ◌++◌, drop}
-use Rattle.command_rules.specs.Listing.{snapshots_from}
+use Rattle.command_semantics.specs.Listing.{snapshots_from}
 use Rattle.device_list.proofs.origin.NamedVolume.list_snapshots.Given as goal
 
 abbrev pub invariant-loop-k : goal.invariant-loop-k

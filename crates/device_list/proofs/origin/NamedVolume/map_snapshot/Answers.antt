@@ -1,7 +1,7 @@
 use Rattle.std.proofs.Common.{◌≡◌, ap, ◌∙◌, refl, arith}
 use Rattle.layers.specs.declared.stack.Stack.{Stack}
-use Rattle.big_steps.specs.Devices.{sectors_of}
-use Rattle.command_rules.specs.Stacks.{device_of}
+use Rattle.whole_commands.specs.Devices.{sectors_of}
+use Rattle.command_semantics.specs.Stacks.{device_of}
 use Rattle.device_list.proofs.Events.{behind}
 use Rattle.device_list.proofs.Mapped.{kept_told, loud_kept, stored_told}
 use Rattle.device_list.proofs.Merges.{merge_is}

@@ -1,8 +1,8 @@
 use Rattle.std.proofs.Common.{◌≡◌, sym, ap, ◌∙◌, refl, arith}
 use Rattle.layers.specs.declared.stack.Stack.{Stack}
-use Rattle.big_steps.specs.Devices.{sectors_of}
-use Rattle.command_rules.specs.Stacks.{device_of}
-use Rattle.command_rules.specs.Status.{merge_state}
+use Rattle.whole_commands.specs.Devices.{sectors_of}
+use Rattle.command_semantics.specs.Stacks.{device_of}
+use Rattle.command_semantics.specs.Status.{merge_state}
 use Rattle.device_list.proofs.Events.{behind}
 use Rattle.device_list.proofs.Merges.{merge_is, no_names, some_names}
 use Rattle.device_list.specs.Status.{state_kept}

@@ -1,7 +1,7 @@
 use Rattle.std.proofs.Common.{refl, sym, ◌∙◌, subst}
-use Rattle.big_steps.specs.Merges.{Merged}
-use Rattle.command_rules.specs.Changes.{Steps}
-use Rattle.command_rules.specs.Messages.{told_role}
+use Rattle.whole_commands.specs.Merges.{Merged}
+use Rattle.command_semantics.specs.Changes.{Steps}
+use Rattle.command_semantics.specs.Messages.{told_role}
 use Rattle.device_list.specs.Held.{merged_inside}
 use Rattle.device_list.proofs.Holds.{stays_held}
 use Rattle.device_list.proofs.Merges.{goes_on, inside_is, still_begun}

@@ -4,7 +4,7 @@ use Rattle.layers.specs.declared.stack.Stack.{Stack}
 use Rattle.plain_machine.specs.declared.event.Event.{Event}
 use Rattle.in_flight.specs.declared.flights.Flight.{Flight}
 use Rattle.snapshot.specs.Kept.{Kept}
-use Rattle.command_rules.specs.State.{Names}
+use Rattle.command_semantics.specs.State.{Names}
 use Rattle.volume_trace.specs.Trace.{trace_of}
 use Rattle.device_list.specs.Backed.{Backed}
 use Rattle.device_list.specs.Held.{merging_with}

@@ -1,5 +1,5 @@
 use Rattle.std.proofs.Common.{sym, ap, ◌∙◌}
-use Rattle.command_rules.specs.Status.{merge_state}
+use Rattle.command_semantics.specs.Status.{merge_state}
 use Rattle.device_list.proofs.Merges.{some_names}
 use Rattle.device_list.proofs.origin.NamedVolume.trace_merge.Goals as goal
 

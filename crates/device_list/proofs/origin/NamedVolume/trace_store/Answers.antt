@@ -1,8 +1,8 @@
 use Rattle.std.proofs.Common.{rules, ◌≡◌, ◌<◌, List, length, get_or, sym, ap, ◌∙◌}
 use Rattle.std.proofs.lemmas.List.{get_or_read}
 use Rattle.std.proofs.lemmas.Result.{on_ok_weaker}
-use Rattle.command_rules.specs.Stacks.{device_of}
-use Rattle.command_rules.specs.State.{Names}
+use Rattle.command_semantics.specs.Stacks.{device_of}
+use Rattle.command_semantics.specs.State.{Names}
 use Rattle.device_list.specs.Backed.{Backed}
 use Rattle.device_list.specs.Held.{settled_in}
 use Rattle.device_list.proofs.Layered.{store_told}

@@ -1,5 +1,5 @@
 use Rattle.std.proofs.Common.{ap}
-use Rattle.command_rules.specs.State.{Stacked}
+use Rattle.command_semantics.specs.State.{Stacked}
 use Rattle.device_stacks.proofs.StackSizes.{has_sectors, is_whole, is_small}
 use Rattle.device_stacks.proofs.stack.NamedStack.sectors.Goals as goal
 

@@ -1,4 +1,4 @@
-use Rattle.command_rules.specs.Stacks.{device_of}
+use Rattle.command_semantics.specs.Stacks.{device_of}
 use Rattle.device_stacks.proofs.Below.{uncovered_is}
 use Rattle.device_stacks.proofs.stack.NamedStack.uncover.Goals as goal
 

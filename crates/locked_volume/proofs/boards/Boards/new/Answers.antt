@@ -3,7 +3,7 @@ use Rattle.std.proofs.Common.{◌≡◌, ◌∷◌, [], sym, ap, ◌∙◌, arit
 use Rattle.std.proofs.lemmas.Grind.{common_steps}
 use Rattle.std.proofs.lemmas.List.{length-map}
 use Rattle.crossbeam_utils.specs.Padded.{padded_value}
-use Rattle.between_threads.specs.Words.{no_usage}
+use Rattle.thread_channels.specs.Words.{no_usage}
 use Rattle.locked_volume.specs.Boards.{Publishes}
 use Rattle.locked_volume.specs.Names.{no_table}
 use Rattle.locked_volume.proofs.Matched.{matched_map, matched_more}

@@ -1,6 +1,6 @@
 -- So many boards are there, with what publishes on them.
 use Rattle.std.proofs.Common.{◌≡◌, length, ◌∷◌, []}
-use Rattle.between_threads.specs.Words.{no_usage}
+use Rattle.thread_channels.specs.Words.{no_usage}
 use Rattle.crossbeam_utils.specs.Padded.{padded_value}
 use Rattle.locked_volume.specs.Boards.{Publishes}
 use Rattle.locked_volume.proofs.Matched.{AreMatched}

@@ -1,6 +1,6 @@
 -- So many passes are there, and nothing changed.
 use Rattle.std.proofs.Common.{◌≡◌, ◌<◌, ℕ, length, get_or}
-use Rattle.between_threads.specs.BoardPasses.{BoardId, Seen}
+use Rattle.thread_channels.specs.BoardPasses.{BoardId, Seen}
 use Rattle.locked_volume.proofs.boards.Boards.readers.Given as goal
 
 abbrev pub invariant-loop-place : goal.invariant-loop-place

@@ -1,6 +1,6 @@
 -- A seat has seen all entries, before and after.
 use Rattle.std.proofs.Common.{◌≡◌, true, false, ◌++◌, [], ◌∷◌, refl, sym, ap, ◌∙◌, subst}
-use Rattle.audit.specs.declared.entry.Entry.TheVariants.{Begun}
+use Rattle.audited_volume.specs.declared.entry.Entry.TheVariants.{Begun}
 use Rattle.volume.specs.Leaving.{is_quiet_of}
 use Rattle.locked_volume.specs.Denying.{Begin, WasDenied}
 use Rattle.locked_volume.specs.Posts.{IsKeeper}

@@ -1,8 +1,8 @@
 use Rattle.std.proofs.Common.{◌<◌, map, refl, sym, ap, ◌∙◌, subst}
 use Rattle.plain_machine.specs.declared.event.Event.TheVariants.{Issue}
 use Rattle.volume.specs.Exact.{IsExact}
-use Rattle.audit.specs.Entries.{answered_of}
-use Rattle.audit.specs.declared.entry.Entry.TheVariants.{Answered, Spoiled}
+use Rattle.audited_volume.specs.Entries.{answered_of}
+use Rattle.audited_volume.specs.declared.entry.Entry.TheVariants.{Answered, Spoiled}
 use Rattle.locked_volume.specs.Boards.{AreKeptUp}
 use Rattle.locked_volume.specs.Fixed.{count_at}
 use Rattle.locked_volume.specs.Posts.{IsKeeper}

@@ -1,7 +1,7 @@
 -- What is new is told, and a request that is refused is refused by what then stands there.
 use Rattle.std.proofs.Common.{◌++◌, map, refl, sym, ap, ◌∙◌, subst}
 use Rattle.std.proofs.lemmas.List.Elements.{All-same}
-use Rattle.audit.specs.declared.entry.Entry.TheVariants.{Spoiled}
+use Rattle.audited_volume.specs.declared.entry.Entry.TheVariants.{Spoiled}
 use Rattle.locked_volume.specs.AskedFor.{IsAskedFor}
 use Rattle.locked_volume.specs.Boards.{AreKeptUp}
 use Rattle.locked_volume.specs.Denying.{Serve, WasDenied}

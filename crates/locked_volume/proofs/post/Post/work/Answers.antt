@@ -1,5 +1,5 @@
 use Rattle.std.proofs.Common.{map, refl, sym, ap, ◌∙◌, subst}
-use Rattle.audit.specs.declared.entry.Entry.TheVariants.{Spoiled}
+use Rattle.audited_volume.specs.declared.entry.Entry.TheVariants.{Spoiled}
 use Rattle.locked_volume.specs.Boards.{AreKeptUp}
 use Rattle.locked_volume.specs.Posts.{IsKeeper}
 use Rattle.locked_volume.proofs.AskedFor.{more_asked, spoils_asked}

@@ -1,7 +1,7 @@
 use Rattle.std.proofs.Common.{◌≡◌, ℕ, ◌*◌, ◌-◌, ◌<◌, ◌^◌, true, arith, refl, ap, ◌∙◌, sym, subst, length, take}
 use Rattle.std.specs.Prelude.{Some, None}
 use Rattle.chunk.specs.Sizes.{is_chunk}
-use Rattle.store_bytes.specs.Pairs.{pairs_of}
+use Rattle.cow_format.specs.Pairs.{pairs_of}
 use Rattle.store.specs.Loading.{is_begun}
 use Rattle.store.specs.Held.{committed}
 use Rattle.store.specs.declared.state.State.{State}

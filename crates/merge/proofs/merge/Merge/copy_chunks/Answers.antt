@@ -3,7 +3,7 @@ use Rattle.std.specs.Prelude.{Some, Bool, true, ◌&&◌}
 use Rattle.sector.specs.Bytes.{sectors_at, with_part}
 use Rattle.sector.specs.declared.pair.Pair.{Pair}
 use Rattle.sector.proofs.Sectors.{written_back}
-use Rattle.store_bytes.specs.Pairs.{IsInside}
+use Rattle.cow_format.specs.Pairs.{IsInside}
 use Rattle.in_flight.specs.Copies.{count_of}
 use Rattle.store.specs.Grouping.{shifted}
 use Rattle.store.proofs.Groups.{same_pair}

@@ -1,5 +1,5 @@
 use Rattle.std.proofs.Common.{◌≢◌, ℕ, ◌<◌}
-use Rattle.store_bytes.specs.Slots.{pair_in}
+use Rattle.cow_format.specs.Slots.{pair_in}
 use Rattle.metadata_area.proofs.area.Area.first_empty.Given as goal
 
 abbrev pub invariant-loop-slot : goal.invariant-loop-slot

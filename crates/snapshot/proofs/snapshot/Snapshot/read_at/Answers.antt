@@ -1,5 +1,5 @@
 use Rattle.std.proofs.Common.{ap, ◌∙◌}
-use Rattle.store_bytes.specs.Picture.{place_of}
+use Rattle.cow_format.specs.Picture.{place_of}
 use Rattle.store.specs.Held.{committed, pairs_pending}
 use Rattle.snapshot.proofs.Stores.{placed_inside}
 use Rattle.snapshot.proofs.Copies.{like_same}

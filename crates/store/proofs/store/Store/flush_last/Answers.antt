@@ -1,4 +1,4 @@
-use Rattle.stop_laws.proofs.Firm.{firm_answered}
+use Rattle.crash_laws.proofs.Firm.{firm_answered}
 use Rattle.store.proofs.store.Store.flush_last.Goals as goal
 
 pub returns-clause-firm : goal.returns-clause-firm

@@ -1,6 +1,6 @@
 use Rattle.std.proofs.Common.{◌-◌, ◌*◌, ◌∙◌, ap, sym, IsTrue}
 use Rattle.device.specs.Layers.{is_loud}
-use Rattle.store_bytes.specs.Places.{chunk_at, area_place}
+use Rattle.cow_format.specs.Places.{chunk_at, area_place}
 use Rattle.store.specs.Held.{committed, pairs_pending}
 use Rattle.store.proofs.Merges.{front_read, stored_read, given_closed}
 use Rattle.store.proofs.store.Store.merge_area_read.Goals as goal

@@ -5,7 +5,7 @@ use Rattle.std.proofs.lemmas.List.{length-map}
 use Rattle.sector.specs.Bytes.{with_sectors}
 use Rattle.sector.specs.declared.pair.Pair.{Pair}
 use Rattle.device.specs.Layers.{is_loud}
-use Rattle.store_bytes.specs.Places.{area_place}
+use Rattle.cow_format.specs.Places.{area_place}
 use Rattle.exception_arena.specs.Pending.{pairs, pair_of}
 use Rattle.exception_arena.specs.declared.begun.Begun.{Begun}
 use Rattle.store.specs.Held.{committed, pending, pairs_pending}

@@ -1,6 +1,6 @@
 use Rattle.std.proofs.Common.{◌≡◌, inl, inr, ◌∙◌, ◌*◌, arith, length, ap, sym, subst, refl, rules, IsTrue, false}
 use Rattle.device.specs.Layers.{is_loud}
-use Rattle.store_bytes.specs.Pairs.{pairs_of}
+use Rattle.cow_format.specs.Pairs.{pairs_of}
 use Rattle.store.specs.Headed.{head_of, marked_as}
 use Rattle.store.specs.Held.{committed, pairs_pending}
 use Rattle.store.specs.Loading.{is_begun, is_left}

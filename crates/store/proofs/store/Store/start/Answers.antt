@@ -1,6 +1,6 @@
 use Rattle.std.proofs.Common.{◌≡◌, ◌≤◌, ◌∙◌, ◌+◌, ◌*◌, ℕ, ap, subst, arith}
-use Rattle.store_bytes.specs.Places.{is_area_place}
-use Rattle.store_bytes.specs.NextPlace.{stepped}
+use Rattle.cow_format.specs.Places.{is_area_place}
+use Rattle.cow_format.specs.NextPlace.{stepped}
 use Rattle.exception_arena.specs.declared.begun.Begun.{Begun}
 use Rattle.store.specs.Held.{committed, pending}
 use Rattle.store.proofs.Pending.{given_started}

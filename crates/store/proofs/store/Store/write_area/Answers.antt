@@ -2,7 +2,7 @@ use Rattle.std.proofs.Common.{◌≡◌, ℕ, ◌+◌, ◌*◌, ◌<◌, List, �
 use Rattle.sector.specs.Bytes.{with_sectors}
 use Rattle.sector.specs.declared.pair.Pair.{Pair}
 use Rattle.device.specs.Layers.{is_loud}
-use Rattle.store_bytes.specs.Places.{area_place}
+use Rattle.cow_format.specs.Places.{area_place}
 use Rattle.exception_arena.specs.Pending.{pairs}
 use Rattle.store.specs.Held.{committed, pending}
 use Rattle.store.specs.Slots.{IsPut}

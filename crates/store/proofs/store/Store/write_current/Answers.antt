@@ -2,7 +2,7 @@ use Rattle.std.proofs.Common.{◌≡◌, ◌≢◌, ◌∙◌, ◌*◌, length, 
 use Rattle.std.proofs.lemmas.Bool.{true≢false}
 use Rattle.sector.specs.Bytes.{with_sectors}
 use Rattle.device.specs.Layers.{is_loud}
-use Rattle.store_bytes.specs.Places.{area_place}
+use Rattle.cow_format.specs.Places.{area_place}
 use Rattle.store.specs.declared.state.Left.TheVariants.{Tail}
 use Rattle.store.specs.Held.{committed}
 use Rattle.store.specs.Loading.{is_settled}

@@ -1,7 +1,7 @@
 use Rattle.std.proofs.Common.{◌≡◌, ◌∙◌, ◌*◌, length, ap, sym, false, IsTrue}
 use Rattle.sector.specs.Bytes.{with_sectors}
 use Rattle.device.specs.Layers.{is_loud}
-use Rattle.store_bytes.specs.Places.{area_place}
+use Rattle.cow_format.specs.Places.{area_place}
 use Rattle.cow_header.specs.HeaderText.{header_bytes}
 use Rattle.store.specs.Held.{committed}
 use Rattle.store.proofs.Heads.{first_inside, head_written}

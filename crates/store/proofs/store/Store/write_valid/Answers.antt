@@ -1,7 +1,7 @@
 use Rattle.std.proofs.Common.{◌≡◌, ◌∙◌, ◌*◌, length, ap, refl, sym, true, IsTrue}
 use Rattle.sector.specs.Bytes.{with_sectors}
 use Rattle.device.specs.Layers.{is_loud}
-use Rattle.store_bytes.specs.Places.{area_place}
+use Rattle.cow_format.specs.Places.{area_place}
 use Rattle.cow_header.specs.HeaderText.{header_bytes}
 use Rattle.store.specs.declared.state.Left.TheVariants.{Nothing}
 use Rattle.store.specs.Held.{committed}

@@ -29,14 +29,14 @@ use Rattle.volume.specs.Moved.{device_of}
 use Rattle.volume.specs.Attached.{IsCountedFor, store_of, volume_in, IsTriedOrigin}
 use Rattle.volume.proofs.AttachedAs.{number_left, refused_before, admitted, count_in, resting, attached_is, back_is, unzeroed_of, unfirm_of, size_opened, loud_taken_as}
 use Rattle.volume.proofs.TriedOrigins.{over, over_whole, over_shown, refused_over, tried_flushed, tried_back}
-use Rattle.stop_laws.specs.Firm.{IsFirm}
+use Rattle.crash_laws.specs.Firm.{IsFirm}
 use Rattle.volume.proofs.LastOne.{IsSameDevice}
 use Rattle.volume.proofs.LastMoves.{all_left_by}
 use Rattle.volume.proofs.Lefts.{all_same}
 use Rattle.volume.proofs.OriginLasts.{origin_met}
 use Rattle.volume.proofs.MergeStarts.{new_lasts}
 use Rattle.volume.proofs.BeginLasts.{attached_all}
-use Rattle.big_steps.proofs.Starved.{other_memory, starved_by}
+use Rattle.whole_commands.proofs.Starved.{other_memory, starved_by}
 use Rattle.volume.specs.Layering.{Measures}
 use Rattle.volume.proofs.Between.{not_attached, not_tried}
 use Rattle.volume.proofs.volume.Volume.attach.Goals as goal

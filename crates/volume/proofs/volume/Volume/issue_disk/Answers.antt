@@ -17,7 +17,7 @@ use Rattle.store.specs.Operations.{IsOneOperation}
 use Rattle.volume.proofs.ExactIssues.{origin_flush_exact, origin_read_exact, origin_write_exact}
 use Rattle.volume.proofs.LastMoves.{met_moves}
 use Rattle.volume.proofs.LastBoth.{met_both}
-use Rattle.stop_laws.proofs.Firm.{adds_none}
+use Rattle.crash_laws.proofs.Firm.{adds_none}
 use Rattle.plain_machine.specs.declared.event.Event.TheVariants.{Issue}
 use Rattle.in_flight.specs.Kinds.{in_flight}
 use Rattle.volume.specs.Stopping.{given_by}

@@ -1,6 +1,6 @@
 -- The snapshot that is found is live, and the read goes where its chunk is.
 use Rattle.std.proofs.Common.{◌/◌, ℕ, refl, sym, ◌∙◌, ap, subst, arith}
-use Rattle.store_bytes.specs.Picture.{place_of}
+use Rattle.cow_format.specs.Picture.{place_of}
 use Rattle.in_flight.specs.declared.flights.Kind.TheVariants.{SnapRead}
 use Rattle.in_flight.specs.Kinds.{kind_of, room_of}
 use Rattle.in_flight.specs.Routes.{read_route_of}

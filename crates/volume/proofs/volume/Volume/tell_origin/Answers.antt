@@ -5,7 +5,7 @@ use Rattle.std.proofs.Common.{inl}
 use Rattle.volume.proofs.Told.{origin_told}
 use Rattle.volume.proofs.LastTime.{alike_lasts, no_adds_merge}
 use Rattle.volume.proofs.OpensNothing.{alike_opens}
-use Rattle.stop_laws.proofs.Firm.{adds_none}
+use Rattle.crash_laws.proofs.Firm.{adds_none}
 use Rattle.volume.proofs.volume.Volume.tell_origin.Goals as goal
 
 pub invariant_of-self : goal.invariant_of-self

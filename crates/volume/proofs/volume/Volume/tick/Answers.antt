@@ -8,8 +8,8 @@ use Rattle.volume.specs.Layering.{Measures, IsSnapLater, IsTicked}
 use Rattle.volume.proofs.Finishes.{back}
 use Rattle.volume.proofs.Relayered.{ticked_alike, ticked_moving, whole_alike, books_of_alike}
 use Rattle.volume.proofs.Told.{plain_alike, loud_alike}
-use Rattle.stop_laws.specs.Firm.{AddsNow}
-use Rattle.stop_laws.proofs.Firm.{adds_none}
+use Rattle.crash_laws.specs.Firm.{AddsNow}
+use Rattle.crash_laws.proofs.Firm.{adds_none}
 use Rattle.volume.proofs.LastTime.{alike_lasts}
 use Rattle.volume.proofs.OpensNothing.{alike_opens}
 use Rattle.volume.proofs.volume.Volume.tick.Goals as goal

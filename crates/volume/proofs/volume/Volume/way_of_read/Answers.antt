@@ -1,6 +1,6 @@
 -- A read of a snapshot goes where its chunk's committed copy stands.
 use Rattle.std.proofs.Common.{◌∙◌, None, Some, ap, arith, inr, sym}
-use Rattle.store_bytes.specs.Picture.{place_of}
+use Rattle.cow_format.specs.Picture.{place_of}
 use Rattle.snapshot.specs.Kept.{Kept}
 use Rattle.snapshot_list.specs.Finding.{place_of_snap}
 use Rattle.volume.specs.AtDisk.{IsReadOf}

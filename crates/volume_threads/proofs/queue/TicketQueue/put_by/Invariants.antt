@@ -1,5 +1,5 @@
 -- Tickets were put so far, and none was taken.
-use Rattle.between_threads.specs.Working.{HasPut}
+use Rattle.thread_channels.specs.Working.{HasPut}
 use Rattle.volume_threads.proofs.queue.TicketQueue.put_by.Given as goal
 
 abbrev pub invariant-loop-copy : goal.invariant-loop-copy

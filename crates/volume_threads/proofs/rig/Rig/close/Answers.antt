@@ -1,6 +1,6 @@
 -- The first volume that is left is closed.
 use Rattle.std.proofs.Common.{◌≡◌, ◌+◌, ◌<◌, ◌≤◌, ◌++◌, ℕ, [], List, length, slice_index_or, vec_capacity, refl, sym, ap, ◌∙◌, subst}
-use Rattle.audit.specs.declared.entry.Entry.{Entry}
+use Rattle.audited_volume.specs.declared.entry.Entry.{Entry}
 use Rattle.locked_volume.specs.AskedFor.{AddsAskedFor}
 use Rattle.locked_volume.specs.Fixed.{StaysFrom, fixed_of}
 use Rattle.volume_threads.specs.Rigs.{IsSettledAt, SeatShape}

@@ -3,7 +3,7 @@ use Rattle.std.proofs.lemmas.List.{append-nil, get_or_default}
 use Rattle.locked_volume.specs.Keeping.{Begins}
 use Rattle.plain_machine.specs.declared.request.Request.{Request}
 use Rattle.volume.specs.Flying.{Fits}
-use Rattle.audit.specs.declared.entry.Entry.{Entry}
+use Rattle.audited_volume.specs.declared.entry.Entry.{Entry}
 use Rattle.locked_volume.specs.Denying.{Serve}
 use Rattle.volume_threads.specs.Rigs.{HasAdded}
 use Rattle.volume_threads.specs.Sittings.{SittingShape}

@@ -2,7 +2,7 @@
 use Rattle.std.proofs.Common.{◌≡◌, ℕ, true, ◌<◌, List, get_or, length, set, [], sym, ap, ◌∙◌, subst}
 use Rattle.std.proofs.lemmas.List.{append-nil, get_or_default}
 use Rattle.locked_volume.specs.Keeping.{Begins}
-use Rattle.audit.specs.declared.entry.Entry.{Entry}
+use Rattle.audited_volume.specs.declared.entry.Entry.{Entry}
 use Rattle.volume_threads.specs.Rigs.{HasAdded}
 use Rattle.volume_threads.specs.Sittings.{SittingShape}
 use Rattle.volume_threads.proofs.Asking.{added_at}

@@ -3,7 +3,7 @@ use Rattle.chunk.specs.Pieces.{Span, pieces_of, span_of}
 use Rattle.chunk.proofs.Limits.{is_chunk-some, is_chunk-small}
 use Rattle.plain_machine.specs.declared.request.Reply.TheVariants.{Data}
 use Rattle.sector.specs.declared.refusal.Refusal.TheVariants.{NoMemory}
-use Rattle.audit.specs.declared.entry.Receipt.{Receipt}
+use Rattle.audited_volume.specs.declared.entry.Receipt.{Receipt}
 use Rattle.locked_volume.specs.Denying.{Serve, WasDenied}
 use Rattle.locked_volume.specs.Fixed.{piece_at}
 use Rattle.volume_threads.specs.Rigs.{HasAdded, seen_at}

@@ -8,7 +8,7 @@ use Rattle.locked_volume.specs.Denying.{Serve, WasDenied}
 use Rattle.locked_volume.specs.Fixed.{piece_at}
 use Rattle.volume_threads.specs.Rigs.{HasAdded, seen_at}
 use Rattle.volume_threads.specs.Served.{IsWriteLost, IsWrittenBy, written_reply}
-use Rattle.audit.specs.declared.entry.Receipt.{Receipt}
+use Rattle.audited_volume.specs.declared.entry.Receipt.{Receipt}
 use Rattle.volume_threads.proofs.Parts.{part_all, part_fits, part_more}
 use Rattle.volume_threads.proofs.UnderWay.{IsUnderWay, begins, ends, goes, stops}
 use Rattle.volume_threads.proofs.seat.Seat.write_all.Goals as goal

@@ -1,7 +1,7 @@
 -- What the seat has seen is what its pass has.
 use Rattle.std.proofs.Common.{◌≡◌, ℕ, List, true, sym, ap, ◌∙◌, subst}
 use Rattle.std.specs.Prelude.{◌≢◌, IfErr, OnOk}
-use Rattle.audit.specs.declared.entry.Entry.{Entry}
+use Rattle.audited_volume.specs.declared.entry.Entry.{Entry}
 use Rattle.locked_volume.specs.Denying.{Begin, WasBegun, WasDenied}
 use Rattle.sector.specs.declared.refusal.Refusal.TheVariants.{NotQuiet}
 use Rattle.volume_threads.specs.Sittings.{seen_of}

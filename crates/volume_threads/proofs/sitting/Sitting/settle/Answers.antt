@@ -1,7 +1,7 @@
 -- Each receipt's count is the place of its entry.
 use Rattle.std.proofs.Common.{◌+◌, ◌++◌, length, sym, ap, ◌∙◌, subst}
 use Rattle.std.specs.Prelude.{slice_index_or}
-use Rattle.audit.specs.Entries.{entries_by}
+use Rattle.audited_volume.specs.Entries.{entries_by}
 use Rattle.locked_volume.specs.Fixed.{count_at}
 use Rattle.volume_threads.specs.Rigs.{AllAgree}
 use Rattle.volume_threads.specs.Sittings.{AreCounted}

@@ -1,7 +1,0 @@
-use Rattle.std.proofs.Common.{arith}
-use Rattle.std.proofs.lemmas.List.{length-map}
-use Rattle.audit.specs.Seats.{seated}
-use Rattle.audit.proofs.audit.Audit.look_at_places.Goals as goal
-
-pub returns-clause-earned : goal.returns-clause-earned
-returns-clause-earned g c = rw (← c.self.view_is) (omega (arith, length-map c.self.inside.held.items seated, c.self.invariant.earned))

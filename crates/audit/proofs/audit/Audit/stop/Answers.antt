@@ -1,4 +1,0 @@
-use Rattle.audit.proofs.audit.Audit.stop.Goals as goal
-
-pub returns-clause-stops : goal.returns-clause-stops
-returns-clause-stops g c = rw c.into_volume.ensures at c.stop.ensures.stops

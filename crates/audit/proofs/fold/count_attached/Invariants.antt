@@ -1,6 +1,0 @@
-use Rattle.std.proofs.Common.{◌≡◌, ◌+◌, ◌≤◌, drop}
-use Rattle.audit.specs.Inside.{attached_count}
-use Rattle.audit.proofs.fold.count_attached.Given as goal
-
-abbrev pub invariant-loop-entry : goal.invariant-loop-entry
-invariant-loop-entry l = (l.count + attached_count (drop l.entry-index l.entries) ≡ attached_count l.entries) × (l.count ≤ l.entry-index)

@@ -1,7 +1,0 @@
-use Rattle.std.proofs.Common.{◌≡◌, drop}
-use Rattle.std.specs.Prelude.{slice_get}
-use Rattle.audit.specs.Entries.{entries_by}
-use Rattle.audit.proofs.verdict.nth_of.Given as goal
-
-abbrev pub invariant-loop-entry : goal.invariant-loop-entry
-invariant-loop-entry l = slice_get (entries_by l.seat l.entries) l.number ≡ slice_get (entries_by l.seat (drop l.entry-index l.entries)) l.left

@@ -1,7 +1,0 @@
-use Rattle.std.proofs.Common.{ap, arith}
-use Rattle.between_threads.specs.Passes.{Passed}
-use Rattle.between_threads.proofs.Moves.{forks}
-use Rattle.between_threads.proofs.queue.Tickets.another.Goals as goal
-
-pub another-requires-clause-rule : goal.another-requires-clause-rule
-another-requires-clause-rule c = forks _ _ (let e = ap (λ (p : Passed). p.parts) c.pass.view_is in omega (arith, e, c.requires.parts))

@@ -1,7 +1,0 @@
-use Rattle.std.proofs.Common.{◌≡◌, map, drop, None}
-use Rattle.command_line.specs.Splits.{last_value}
-use Rattle.command_line.specs.Reading.{given_of, text_in}
-use Rattle.command_line.proofs.splitting.Words.value.Given as goal
-
-abbrev pub invariant-loop-given : goal.invariant-loop-given
-invariant-loop-given l = last_value (text_in l.value) l.option (map given_of (drop l.given-index l.given-items)) ≡ last_value None l.option (map given_of l.given-items)

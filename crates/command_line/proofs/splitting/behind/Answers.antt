@@ -1,5 +1,0 @@
-use Rattle.command_line.proofs.Strips.{strips}
-use Rattle.command_line.proofs.splitting.behind.Goals as goal
-
-pub returns : goal.returns
-returns c = strips c.args.front.now c.args.word.now c.strip_prefix.result c.strip_prefix.ensures.cases

@@ -1,6 +1,0 @@
-use Rattle.std.proofs.Common.{◌≡◌, ◌++◌, take}
-use Rattle.cow_answers.specs.Salvage.{spans_text}
-use Rattle.cow_answers.proofs.salvage.push_spans.Given as goal
-
-abbrev pub invariant-loop-span : goal.invariant-loop-span
-invariant-loop-span l = l.text.items ≡ l.initial.text.items ++ spans_text l.key (take l.span-index l.spans)

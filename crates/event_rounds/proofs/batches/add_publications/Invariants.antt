@@ -1,7 +1,0 @@
--- The events of the marks so far are added.
-use Rattle.std.proofs.Common.{◌≡◌, ◌++◌, take}
-use Rattle.event_rounds.specs.Rounds.{publications_of}
-use Rattle.event_rounds.proofs.batches.add_publications.Given as goal
-
-abbrev pub invariant-loop-mark : goal.invariant-loop-mark
-invariant-loop-mark l = l.events.items ≡ l.initial.events.items ++ publications_of (take l.mark-index l.marks)

@@ -1,6 +1,0 @@
-use Rattle.std.proofs.Common.{◌≡◌, ◌++◌, take}
-use Rattle.image_answers.specs.Names.{table_name}
-use Rattle.image_answers.proofs.names.push_table_name.Given as goal
-
-abbrev pub invariant-loop-byte : goal.invariant-loop-byte
-invariant-loop-byte l = l.text.items ≡ l.initial.text.items ++ table_name (take l.byte-index l.name)

@@ -1,0 +1,7 @@
+use Rattle.std.proofs.Common.{◌≡◌, ◌++◌, take}
+use Rattle.std.specs.Prelude.{flat_map}
+use Rattle.image_reports.specs.Ranging.{next_object}
+use Rattle.image_reports.proofs.ranging.push_others.Given as goal
+
+abbrev pub invariant-loop-range : goal.invariant-loop-range
+invariant-loop-range l = l.text.items ≡ l.initial.text.items ++ flat_map (next_object l.origin l.cow) (take l.range-index l.ranges)

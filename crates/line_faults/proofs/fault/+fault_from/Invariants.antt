@@ -1,5 +1,0 @@
-use Rattle.std.proofs.Common.{length}
-use Rattle.line_faults.proofs.fault.+fault_from.Given as goal
-
-abbrev pub decreases-fault_from : goal.decreases-fault_from
-decreases-fault_from l = length l.form.now

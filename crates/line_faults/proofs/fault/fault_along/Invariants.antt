@@ -1,7 +1,0 @@
-use Rattle.std.proofs.Common.{◌≡◌, drop}
-use Rattle.words.specs.Texts.{texts}
-use Rattle.line_faults.specs.Faults.{fault_along}
-use Rattle.line_faults.proofs.fault.fault_along.Given as goal
-
-abbrev pub invariant-loop-word : goal.invariant-loop-word
-invariant-loop-word l = fault_along l.wants (texts (drop l.word-index l.words)) ≡ fault_along l.wants (texts l.words)

@@ -1,6 +1,0 @@
-use Rattle.std.proofs.Common.{◌≡◌, ◌+◌, drop}
-use Rattle.line_faults.specs.Near.{alike}
-use Rattle.line_faults.proofs.near.alike.Given as goal
-
-abbrev pub invariant-loop-at : goal.invariant-loop-at
-invariant-loop-at l = l.at + alike (drop l.at l.one) (drop l.at l.other) ≡ alike l.one l.other

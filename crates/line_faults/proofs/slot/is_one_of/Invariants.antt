@@ -1,7 +1,0 @@
-use Rattle.std.proofs.Common.{◌≡◌, drop}
-use Rattle.words.specs.Texts.{texts}
-use Rattle.line_faults.specs.Slots.{is_one_of}
-use Rattle.line_faults.proofs.slot.is_one_of.Given as goal
-
-abbrev pub invariant-loop-one : goal.invariant-loop-one
-invariant-loop-one l = is_one_of (texts (drop l.one-index l.ones)) l.word ≡ is_one_of (texts l.ones) l.word

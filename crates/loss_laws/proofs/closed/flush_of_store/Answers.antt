@@ -1,6 +1,0 @@
--- By the law over devices.
-use Rattle.loss_laws.proofs.OnDevices.{store_closes_on}
-use Rattle.loss_laws.proofs.closed.flush_of_store.Goals as goal
-
-pub returns : goal.returns
-returns g c = record { closes = λ firm chunk pos. store_closes_on g.B.Block.may_hold g.B.Block.contents g.B.Block.size g.met.B.Block.whole g.met.B.Block.holds_now chunk c.args.origin.now c.args.store.now pos firm }

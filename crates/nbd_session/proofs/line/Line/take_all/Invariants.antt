@@ -1,5 +1,0 @@
-use Rattle.nbd_session.specs.Moved.{MovesUnsaid}
-use Rattle.nbd_session.proofs.line.Line.take_all.Given as goal
-
-abbrev pub invariant-loop : goal.invariant-loop
-invariant-loop l = MovesUnsaid l.fn.self l.self

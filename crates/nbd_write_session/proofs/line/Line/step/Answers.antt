@@ -1,0 +1,35 @@
+use Rattle.std.proofs.Common.{ℕ, List, ◌∷◌, refl, subst}
+use Rattle.nbd_backend.specs.Calls.{Call, Step}
+use Rattle.nbd_backend.specs.declared.array.Stepped.TheVariants.{Still, Idle, Done, Slow, Back, Ended}
+use Rattle.nbd_write_session.specs.Moved.{MovesCalling}
+use Rattle.nbd_write_session.proofs.Called.{reaches_at, reaches_one, reaches_then}
+use Rattle.nbd_write_session.proofs.Calling.{called_to, calling_saying, saying, stepped, stepped_saying}
+use Rattle.nbd_write_session.proofs.line.Line.step.Goals as goal
+
+pub returns-in-Still-clause-moves : goal.returns-in-Still-clause-moves
+returns-in-Still-clause-moves g c = calling_saying g.A.Array.does _ _ _ _ _ (stepped g.A.Array.does _ _ _ Still (rw c.in-Still.is at c.step.ensures) (λ calls. refl) (λ calls serial. refl))
+
+pub returns-in-Idle-clause-moves : goal.returns-in-Idle-clause-moves
+returns-in-Idle-clause-moves g c = calling_saying g.A.Array.does _ _ _ _ _ (stepped g.A.Array.does _ _ _ Idle (rw c.in-Idle.is at c.step.ensures) (λ calls. refl) (λ calls serial. refl))
+
+pub returns-in-Done-clause-moves : goal.returns-in-Done-clause-moves
+returns-in-Done-clause-moves g c = calling_saying g.A.Array.does _ _ _ _ _ (stepped g.A.Array.does _ _ _ Done (rw c.in-Done.is at c.step.ensures) (λ calls. refl) (λ calls serial. refl))
+
+pub returns-in_ok-pause-in-Slow-clause-moves : goal.returns-in_ok-pause-in-Slow-clause-moves
+returns-in_ok-pause-in-Slow-clause-moves g c =
+    saying g.A.Array.does _ _ _ _ _ _ _ _ _ (calling_saying g.A.Array.does _ _ _ _ _ (stepped g.A.Array.does _ _ _ Slow (rw c.in-Slow.is at c.step.ensures) (λ calls. refl) (λ calls serial. refl))) c.in_ok-pause-in-Slow.ensures.moves
+
+pub returns-in-Back-clause-moves : goal.returns-in-Back-clause-moves
+returns-in-Back-clause-moves g c =
+    let P : List ℕ → Type 0 = λ l. (calls : List Call) → MovesCalling c.args.self.now c.take_back.new.self calls (Step (Back c.in-Back.number l c.in-Back.error) ∷ calls) in
+    calling_saying g.A.Array.does _ _ _ _ _ (called_to g.A.Array.does _ _ _ _ (Step (Back c.in-Back.number c.in-Back.bytes c.in-Back.error)) (rw c.in-Back.is at c.step.ensures) (subst P c.as_slice.ensures c.take_back.ensures.moves))
+
+pub returns-in_ok-end-in-Ended-clause-moves : goal.returns-in_ok-end-in-Ended-clause-moves
+returns-in_ok-end-in-Ended-clause-moves g c =
+    stepped_saying g.A.Array.does _ _ _ _ _ _ Ended (rw c.in-Ended.is at c.step.ensures) c.in_ok-end-in-Ended.ensures.moves (λ calls. refl) (λ calls serial. refl)
+
+pub returns-in_err-pause-in-Slow-clause-called : goal.returns-in_err-pause-in-Slow-clause-called
+returns-in_err-pause-in-Slow-clause-called g c = reaches_at g.A.Array.does _ _ _ (reaches_then g.A.Array.does _ _ _ (reaches_one g.A.Array.does _ _ (Step Slow) (rw c.in-Slow.is at c.step.ensures)) c.in_err-pause-in-Slow.ensures.called)
+
+pub returns-in_err-end-in-Ended-clause-called : goal.returns-in_err-end-in-Ended-clause-called
+returns-in_err-end-in-Ended-clause-called g c = reaches_at g.A.Array.does _ _ _ (reaches_one g.A.Array.does _ _ (Step Ended) (rw c.in-Ended.is at c.step.ensures))

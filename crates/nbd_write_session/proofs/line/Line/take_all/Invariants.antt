@@ -1,0 +1,5 @@
+use Rattle.nbd_write_session.specs.Moved.{MovesUnsaid}
+use Rattle.nbd_write_session.proofs.line.Line.take_all.Given as goal
+
+abbrev pub invariant-loop : goal.invariant-loop
+invariant-loop l = MovesUnsaid l.fn.self l.self

@@ -1,6 +1,0 @@
-use Rattle.std.proofs.Common.{◌≡◌, ◌≤◌, [], take, drop}
-use Rattle.serve_words.specs.Exports.{last_part}
-use Rattle.serve_words.proofs.exports.export_name.Given as goal
-
-abbrev pub invariant-loop-place : goal.invariant-loop-place
-invariant-loop-place l = (l.from ≤ l.place) × (last_part (drop l.from (take l.place l.cow)) (drop l.place l.cow) ≡ last_part [] l.cow)

@@ -1,7 +1,0 @@
-use Rattle.std.proofs.Common.{◌≡◌, [], map, take, drop}
-use Rattle.command_line.specs.Reading.{text_of}
-use Rattle.serve_words.specs.Exports.{first_unfit}
-use Rattle.serve_words.proofs.exports.unfit.Given as goal
-
-abbrev pub invariant-loop-place : goal.invariant-loop-place
-invariant-loop-place l = first_unfit (map text_of (take l.place l.cows)) (map text_of (drop l.place l.cows)) ≡ first_unfit [] (map text_of l.cows)

@@ -1,5 +1,0 @@
--- As the volume says it.
-use Rattle.volume_history.proofs.lived_volume.LivedVolume.store.Goals as goal
-
-pub returns-clause-ok : goal.returns-clause-ok
-returns-clause-ok g c = rw (← c.self.view_is) c.store.ensures.ok

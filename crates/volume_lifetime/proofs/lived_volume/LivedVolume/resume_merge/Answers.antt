@@ -1,0 +1,13 @@
+-- The life goes on by one deed.
+use Rattle.volume.specs.Layering.{Measures}
+use Rattle.volume_lifetime.specs.declared.deed.Deed.TheVariants.{ResumeMerge}
+use Rattle.volume_lifetime.specs.declared.deed.Done.TheVariants.{Resumed}
+use Rattle.volume_lifetime.proofs.Life.{life_on}
+use Rattle.volume_lifetime.proofs.Lives.{resume_done}
+use Rattle.volume_lifetime.proofs.lived_volume.LivedVolume.resume_merge.Goals as goal
+
+pub invariant_of-self : goal.invariant_of-self
+invariant_of-self g c =
+    let m : Measures g.row.B.Denot = record { contents = g.B.Block.contents; durable = g.B.Block.durable; size = g.B.Block.size; faults = g.B.Block.fault_count; done = g.B.Block.done_count } in
+    life_on g.B.Block.may_hold m g.B.Block.layers (ResumeMerge) (Resumed c.resume_merge.result) c.self.inside.volume c.resume_merge.new.self c.self.invariant
+    (resume_done g.B.Block.may_hold m g.B.Block.layers c.resume_merge.result c.self.inside.volume c.resume_merge.new.self c.resume_merge.ensures.does)
