@@ -1,5 +1,5 @@
 // One operation of a device is done ahead.
-ghost use Rattle.std.specs.Prelude.{◌≡◌, ℕ};
+ghost use Rattle.std.specs.Prelude.{◌≡◌, ℕ, false, true};
 ghost use Rattle.device.specs.Ahead.{IsAhead};
 ghost use Rattle.device.specs.CanDoAhead.{CanDoAhead, IsWrite};
 ghost use Rattle.device.specs.Layers.{fate, is_answered};
@@ -16,6 +16,7 @@ const MOST: u32 = 1024;
 pub fn do_ahead<B: Ahead>(device: &mut B, operation: Operation) -> bool
     ensures told { CanDoAhead (B.size device.old) operation → result ≡ is_answered (fate (B.layers device.new) operation) }
     ensures writes { (first count : ℕ) → IsWrite operation → result ≡ is_answered (fate (B.layers device.new) (Writes first count)) }
+    ensures sure { CanDoAhead (B.size device.old) operation → B.unanswered device.new ≡ false → result ≡ true }
     ensures does { IsAhead B.may_hold B.contents B.layers B.size B.fault_count B.done_count device.old device.new }
 {
     match operation {

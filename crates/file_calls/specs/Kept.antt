@@ -3,6 +3,7 @@
 -- ftruncate and fdatasync. A read gives what was written last. A page cache may write a sector out at any time, each by itself. A
 -- sync that is answered has made all earlier writes last.
 use Rattle.std.specs.Prelude.{◌≡◌, ◌⊎◌, ℕ, ◌-◌, ◌&&◌, ◌||◌, ◌==◌, not, length, Bool, true, List, [], ◌∷◌, ◌++◌, take, drop, replicate, Some, None, if◌then◌else◌}
+use Rattle.std.specs.Option.{is_some}
 use Rattle.std.specs.Str.{bytes_eq}
 use Rattle.sector.specs.Bytes.{sector_at, with_part}
 use Rattle.file_calls.specs.Calls.{Call, Len, Read, Write, SetLen, Sync}
@@ -54,6 +55,15 @@ are_answered (Read at count bytes ∷ calls) = are_answered calls
 are_answered (Write at bytes done ∷ calls) = done && are_answered calls
 are_answered (SetLen n done ∷ calls) = done && are_answered calls
 are_answered (Sync done promised ∷ calls) = done && are_answered calls
+
+-- whether each call was, a read and a look at the length too
+abbrev pub all_answered : List Call → Bool
+all_answered [] = true
+all_answered (Len answer ∷ calls) = is_some answer && all_answered calls
+all_answered (Read at count bytes ∷ calls) = is_some bytes && all_answered calls
+all_answered (Write at bytes done ∷ calls) = done && all_answered calls
+all_answered (SetLen n done ∷ calls) = done && all_answered calls
+all_answered (Sync done promised ∷ calls) = done && all_answered calls
 
 -- THE premise about files. The answers are those of a file that held this at first, keeps what is written, and that nobody else
 -- writes: each read gave what was there, each length was right, and no sync was answered, or promised, but where it was answered

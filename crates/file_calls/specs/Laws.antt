@@ -1,5 +1,6 @@
 -- Laws of what a file holds by its calls: a stop may leave what is there and what was kept, and where the answers are those of a file
 -- that keeps what is written, a read changes nothing.
+use Rattle.std.specs.Option.{is_some}
 use Rattle.std.specs.Prelude.{◌≡◌, ℕ, ◌+◌, ◌≤◌, ◌&&◌, ◌||◌, Bool, true, false, List, [], ◌∷◌, Some, None, length, refl, take, drop}
 use mathlib.Core.Logic.{inl, inr}
 use Rattle.std.proofs.Common.{◌∙◌, ap, subst, sym, arith}
@@ -7,7 +8,7 @@ use Rattle.std.proofs.lemmas.List.{places, same_lists}
 use Rattle.std.proofs.lemmas.Slice.Eq.{bytes_eq-Decides}
 use Rattle.sector.specs.Bytes.{sector_at, with_part}
 use Rattle.file_calls.specs.Calls.{Call, Len, Read, Write, SetLen, Sync}
-use Rattle.file_calls.specs.Kept.{with_len, with_bytes, now_in, kept_in, MayHold, is_kept}
+use Rattle.file_calls.specs.Kept.{with_len, with_bytes, now_in, kept_in, MayHold, all_answered, are_answered, is_kept}
 
 pub length-with_len : (bytes : List ℕ) (n : ℕ) → length (with_len bytes n) ≡ n
 length-with_len bytes n = grind (arith, places)
@@ -46,6 +47,20 @@ pub of_both : (one other : Bool) → (one && other) ≡ true → (one ≡ true) 
 of_both true true is = (refl, refl)
 of_both true false is = absurd (let no : ⊥ = cc in no)
 of_both false other is = absurd (let no : ⊥ = cc in no)
+
+pub to_both : (one other : Bool) → one ≡ true → other ≡ true → (one && other) ≡ true
+to_both true true is so = refl
+to_both true false is so = absurd (let no : ⊥ = cc in no)
+to_both false other is so = absurd (let no : ⊥ = cc in no)
+
+-- where every call was answered, all that changes a file was
+pub changes_answered : (calls : List Call) → all_answered calls ≡ true → are_answered calls ≡ true
+changes_answered [] is = refl
+changes_answered (Len answer ∷ calls) is = changes_answered calls (of_both (is_some answer) (all_answered calls) is).1
+changes_answered (Read at count bytes ∷ calls) is = changes_answered calls (of_both (is_some bytes) (all_answered calls) is).1
+changes_answered (Write at bytes done ∷ calls) is = let both = of_both done (all_answered calls) is in to_both done (are_answered calls) both.0 (changes_answered calls both.1)
+changes_answered (SetLen n done ∷ calls) is = let both = of_both done (all_answered calls) is in to_both done (are_answered calls) both.0 (changes_answered calls both.1)
+changes_answered (Sync done promised ∷ calls) is = let both = of_both done (all_answered calls) is in to_both done (are_answered calls) both.0 (changes_answered calls both.1)
 
 -- what is kept was kept before each call
 pub kept_before : (start : List ℕ) (call : Call) (calls : List Call) → is_kept start (call ∷ calls) ≡ true → is_kept start calls ≡ true

@@ -1,6 +1,6 @@
 -- Laws of a file's layers: what is kept is found so.
 use Rattle.std.specs.Prelude.{◌≡◌, Bool, true, false, List, [], ◌∷◌, ◌++◌, refl}
-use Rattle.std.proofs.Common.{◌∙◌}
+use Rattle.std.proofs.Common.{◌∙◌, sym}
 use Rattle.std.specs.Prelude.{◌&&◌, ◌||◌, not, map, if◌then◌else◌, ℕ}
 use Rattle.std.specs.List.{list_any}
 use Rattle.std.proofs.Common.{ap}
@@ -10,8 +10,8 @@ use Rattle.device.specs.Layers.{is_loud, fate, then_fate, is_answered, is_within
 use Rattle.file_device.specs.declared.piece.Piece.{Piece}
 use Rattle.file_device.specs.Pieces.{range_of, has_all, pieces_in}
 use Rattle.file_calls.specs.Calls.{Call, Len, Read, Write, SetLen, Sync}
-use Rattle.file_calls.specs.Kept.{is_kept}
-use Rattle.file_calls.specs.Laws.{kept_before}
+use Rattle.file_calls.specs.Kept.{all_answered, are_answered, is_kept}
+use Rattle.file_calls.specs.Laws.{changes_answered, kept_before}
 use Rattle.file_device.specs.declared.pieces.Pieces.{Pieces}
 use Rattle.file_device.specs.Layers.{is_found_kept, file_layers}
 
@@ -53,3 +53,15 @@ answers false pieces kept first count = by_test (list_any (is_within first count
     ranges : (xs : List Piece) → list_any (is_within first count) (map range_of xs) ≡ list_any (has_all first count) xs
     ranges [] = refl
     ranges (x ∷ xs) = ap (λ b. has_all first count x || b) (ranges xs)
+
+not_false : (b : Bool) → not b ≡ false → b ≡ true
+not_false true is = refl
+not_false false is = absurd (let no : ⊥ = cc in no)
+
+-- while every call is answered the file is not given up, and no write and no sync failed
+pub unbroken : (calls : List Call) (broken failed : Bool) → (broken ≡ true → failed ≡ true) → failed ≡ not (are_answered calls) → not (all_answered calls) ≡ false → (broken ≡ false) × (failed ≡ false)
+unbroken calls broken failed so is all = (let none : failed ≡ false = is ∙ ap not (changes_answered calls (not_false (all_answered calls) all)) in (by broken so none, none))
+  where
+    by : (b : Bool) → (b ≡ true → failed ≡ true) → failed ≡ false → b ≡ false
+    by true so none = absurd (let no : true ≡ false = sym (so refl) ∙ none in cc)
+    by false so none = refl

@@ -1,6 +1,6 @@
 // What is done ahead.
 ghost use Rattle.std.specs.Prelude.{◌≡◌, not};
-ghost use Rattle.file_calls.specs.Kept.{are_answered};
+ghost use Rattle.file_calls.specs.Kept.{all_answered, are_answered};
 
 use crate::piece::Piece;
 use crate::{FileDevice, Start};
@@ -11,6 +11,8 @@ use std::alloc::{AllocError, Global};
 
 impl<C: FileCalls, S: Start> Ahead for FileDevice<C, S> {
     ghost failed = { λ d. not (are_answered (C.history d.file)) };
+
+    ghost unanswered = { λ d. not (all_answered (C.history d.file)) };
 
     fn is_failed(&self) -> bool {
         self.has_failed

@@ -36,6 +36,7 @@ pub struct FileDevice<C: FileCalls, S: Start> {
     ghost long: { length (now_in (at_first (S.first number) sectors) (C.history file)) ≡ 512 * sectors },
     ghost there: { All (IsPieceOf (now_in (at_first (S.first number) sectors) (C.history file)) sectors) (pieces_in pieces) },
     ghost failed: { has_failed ≡ not (are_answered (C.history file)) },
+    ghost broken: { is_broken ≡ true → has_failed ≡ true },
     ghost firm: { is_synced ≡ true → (s : ℕ) (v : List ℕ) → MayHold (at_first (S.first number) sectors) (C.history file) s v → v ≡ sector_at (now_in (at_first (S.first number) sectors) (C.history file)) s },
     ghost kept: { is_synced ≡ true → kept_in (at_first (S.first number) sectors) (C.history file) ≡ now_in (at_first (S.first number) sectors) (C.history file) },
 }

@@ -103,7 +103,7 @@ pub fn has_unsafe(marks: &[Mark]) -> bool
     marks.iter().any(|m| !m.safe)
 }
 
-/// How far a copy is after a flush of the store: what is written counts as written.
+/// How far a copy is after a flush of the store: what is written counts as flushed.
 pub fn flushed_stage(stage: Stage) -> Stage
     ensures { result ≡ stage_after stage }
 {

@@ -1,5 +1,5 @@
 // A merge does an operation of its store's device ahead.
-ghost use Rattle.std.specs.Prelude.{◌≡◌, ℕ};
+ghost use Rattle.std.specs.Prelude.{◌≡◌, ℕ, false, true};
 ghost use Rattle.device.specs.CanDoAhead.{CanDoAhead, IsWrite};
 ghost use Rattle.device.specs.Layers.{fate, is_answered};
 ghost use Rattle.device.specs.declared.operation.Operation.TheVariants.{Writes};
@@ -20,6 +20,7 @@ impl<B: Ahead> Merge<B> {
     pub fn ahead(&mut self, operation: Operation) -> bool
         ensures told { CanDoAhead (B.size self.old.device) operation → result ≡ is_answered (fate (B.layers self.new.device) operation) }
         ensures writes { (first count : ℕ) → IsWrite operation → result ≡ is_answered (fate (B.layers self.new.device) (Writes first count)) }
+        ensures sure { CanDoAhead (B.size self.old.device) operation → B.unanswered self.new.device ≡ false → result ≡ true }
         ensures does { IsDoneAhead B.Block self.old self.new }
         ensures same { ChangesOnlyDevice self.old self.new }
     {

@@ -26,7 +26,7 @@ alike (suc blocks) kind bytes =
 unfoldable pub most_blocks : ℕ
 most_blocks = 8192
 
--- the bytes that a request asks about, of which those behind the last block that is told of are left out
+-- the bytes that a request asks about
 abbrev pub asked_bytes : ℕ → ℕ → List ℕ → List ℕ
 asked_bytes offset len bytes = take len (drop offset bytes)
 

@@ -18,7 +18,7 @@ pub enum Event {
     ZeroNext(SnapId),
     /// Writes the area with the first copies' pairs added.
     WriteArea(SnapId),
-    /// From here on the snapshot has its own copy of the chunk.
+    /// From here on writes of the origin's chunk need not wait for the snapshot's copy, and its own writes go to it.
     Publish(CopyId),
     /// Writes a spoiled snapshot's header with its valid word 0.
     WriteInvalid(SnapId),

@@ -4,7 +4,7 @@ ghost use Rattle.serve_files.specs.Status.{status_by};
 
 use crate::trouble::{Trouble, Why};
 
-/// The exit status: 0 where it is done, 1 where a store is refused, 2 where it could not run.
+/// The exit status: 0 where it is done, 1 where a store is refused, or a snapshot or a merge is left out, 2 where it could not run.
 pub fn status_of(done: &Result<(), Trouble<'_>>) -> u8
     ensures { result ≡ status_by done.now }
 {

@@ -14,6 +14,7 @@ impl<B: Ahead> Snapshot<B> {
     pub fn ahead(&mut self, operation: Operation) -> bool
         ensures told { CanDoAhead (B.size self.old.device) operation → result ≡ is_answered (fate (B.layers self.new.device) operation) }
         ensures writes { (first count : ℕ) → IsWrite operation → result ≡ is_answered (fate (B.layers self.new.device) (Writes first count)) }
+        ensures sure { CanDoAhead (B.size self.old.device) operation → B.unanswered self.new.device ≡ false → result ≡ true }
         ensures does { IsDoneAhead B.Block self.old self.new }
         ensures same { ChangesOnlyDevice self.old self.new }
         ensures fresh { self.old.untried ≡ true → self.old.stale ≡ false }

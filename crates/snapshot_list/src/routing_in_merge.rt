@@ -53,7 +53,7 @@ pub fn merged_route<B: Block>(merge: &Option<Merge<B>>, first: u64) -> Route
     write_route(is_grouped_at(merge, first), place_at(merge, first), false)
 }
 
-/// The route of an origin write at this sector beside a merge: none while its chunk is in the present group, and else the
+/// The route of an origin write at this sector beside a merge: held while its chunk is in the present group, and else the
 /// chunk's place on the merging store, if it has one there.
 fn route_beside<B: Block>(snaps: &[Snapshot<B>], merge: &Merge<B>, first: u64) -> Route
     requires { All (λ s. 0 < s.state.chunk) snaps.now }

@@ -1,6 +1,6 @@
 // A store does an operation of its device ahead.
-ghost use Rattle.std.specs.Prelude.{◌≡◌, ℕ};
-ghost use Rattle.device.specs.CanDoAhead.{IsWrite};
+ghost use Rattle.std.specs.Prelude.{◌≡◌, ℕ, false, true};
+ghost use Rattle.device.specs.CanDoAhead.{CanDoAhead, IsWrite};
 ghost use Rattle.device.specs.Layers.{fate, is_answered};
 ghost use Rattle.device.specs.declared.operation.Operation.TheVariants.{Writes};
 ghost use Rattle.store.specs.Calls.{Foretold, IsDoneAhead, KeepsExceptions, KeepsState};
@@ -13,6 +13,7 @@ impl<B: Ahead> Store<B> {
     pub fn ahead(&mut self, operation: Operation) -> bool
         ensures told { Foretold operation result self.old self.new }
         ensures writes { (first count : ℕ) → IsWrite operation → result ≡ is_answered (fate (B.layers self.new.device) (Writes first count)) }
+        ensures sure { CanDoAhead (B.size self.old.device) operation → B.unanswered self.new.device ≡ false → result ≡ true }
         ensures does { IsDoneAhead self.old self.new }
         ensures state { KeepsState self.old self.new }
         ensures exceptions { KeepsExceptions self.old self.new }

@@ -82,8 +82,8 @@ pub enum Loaded {
 ///
 /// The refusals, in this order: `Io` where the first sector cannot be read; `BadHeader`, `BadVersion`, `BadChunk` and
 /// `Invalid` by that sector; `StoreTooSmall` for less than two chunks; `Io` where an area cannot be read, up to the one of
-/// the first empty slot; `Damaged` where the pairs are not well formed; `NoMemory` where memory is refused. The device is
-/// given back with a refusal.
+/// the first empty slot; `Damaged` where the pairs are not well formed. `NoMemory` comes behind what the first sector
+/// refuses. The device is given back with a refusal.
 pub fn open<B: Block>(
     alloc: Global,
     mut device: B,

@@ -79,6 +79,12 @@ pub mod Listed
 pub mod AtRest
 pub mod Quieted
 pub mod Asked
+pub mod Answered
+pub mod AsksEvents
+pub mod AsksIssues
+pub mod AsksReads
+pub mod AsksTold
+pub mod Faultless
 pub mod MergeDue
 pub mod Unwritten
 pub mod Unlike

@@ -35,7 +35,7 @@ use Rattle.volume.proofs.MovedSnaps.{changed, device_by, met_is}
 use Rattle.in_flight.specs.Flushed.{flushed_copy, safe_mark}
 
 -- whether it is found, and goes somewhere
-issuable_first : (n j : ℕ) (f : Flight) (fs : List Flight) → IsFirst (λ (x : Flight). x.number == n) j f fs → is_routed f.route ≡ true → IsFirst (λ (x : Flight). (x.number == n) && is_routed x.route) j f fs
+pub issuable_first : (n j : ℕ) (f : Flight) (fs : List Flight) → IsFirst (λ (x : Flight). x.number == n) j f fs → is_routed f.route ≡ true → IsFirst (λ (x : Flight). (x.number == n) && is_routed x.route) j f fs
 issuable_first n j f fs found routed = record {
   within = found.within;
   is = found.is;

@@ -39,7 +39,7 @@ module _ {B : Type 0} (contents : B → List ℕ) (layers : B → List Layer) (s
       whole.holds.snaps k (snap_books contents layers s) (omega (arith, within, length-map v.snaps (snap_books contents layers))) in
       subst (SnapHolds (is_loud (layers v.origin)) (contents v.origin) v.flights) (get_or-map (snap_books contents layers) v.snaps k s (snap_books contents layers s) within ∙ ap (snap_books contents layers) (sym is)) held
 
-  live_holds : LiveHolds (is_loud (layers v.origin)) (contents v.origin) v.flights (snap_books contents layers s)
+  pub live_holds : LiveHolds (is_loud (layers v.origin)) (contents v.origin) v.flights (snap_books contents layers s)
   live_holds = snap_holds.alive live
 
   -- the places of its pairs lie inside its device

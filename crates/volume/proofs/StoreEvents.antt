@@ -1,5 +1,5 @@
 -- The events of one store: an area is zeroed, the first copies are committed, and it is flushed.
-use Rattle.std.proofs.Common.{◌≡◌, inl, inr, ℕ, zero, suc, ◌+◌, ◌-◌, ◌*◌, ◌<◌, Bool, true, false, List, [], ◌∷◌, ◌++◌, length, get_or, map, take, drop, refl, ◌∙◌, ap, arith, nat_eq, eq-eqb, append_assoc, sym, subst}
+use Rattle.std.proofs.Common.{◌≡◌, inl, inr, ℕ, zero, suc, ◌+◌, ◌-◌, ◌*◌, ◌<◌, ◌≤◌, Bool, true, false, List, [], ◌∷◌, ◌++◌, length, get_or, map, take, drop, refl, ◌∙◌, ap, arith, nat_eq, eq-eqb, append_assoc, sym, subst}
 use Rattle.std.specs.Prelude.{◌&&◌, ◌||◌, not, if◌then◌else◌}
 use Rattle.std.specs.List.{list_any}
 use Rattle.std.proofs.lemmas.Bool.{cases_Bool, false≢true, eqb-true}
@@ -7,6 +7,7 @@ use Rattle.std.proofs.lemmas.List.{map-append}
 use Rattle.sector.specs.Bytes.{next_count}
 use Rattle.device.specs.Layers.{Layer, is_loud}
 use Rattle.cow_format.specs.NextPlace.{LacksArea}
+use Rattle.cow_format.specs.Places.{area_place}
 use Rattle.plain_machine.specs.declared.event.Event.TheVariants.{FlushStore, ZeroNext, WriteArea}
 use Rattle.plain_machine.specs.declared.event.Outcome.TheVariants.{Done, Fault}
 use Rattle.in_flight.specs.Due.{number_of_copy, number_of_mark, front_ready, front_unflushed}
@@ -195,9 +196,9 @@ module _ {B : Type 0} (contents : B → List ℕ) (layers : B → List Layer) (s
       ]
 
   -- the store failed
-  pub zero_fault : is_zeroing number s ≡ true → SpoiltTo s s' → is_loud (layers s'.device) ≡ is_loud (layers s.device) → size s'.device ≡ size s.device → faults s'.device ≡ next_count (faults s.device) → done s'.device ≡ next_count (done s.device)
+  pub zero_fault : is_zeroing number s ≡ true → s.state.chunk * (area_place s.state.chunk (s.state.current + 1) + 1) ≤ s.state.size → SpoiltTo s s' → is_loud (layers s'.device) ≡ is_loud (layers s.device) → size s'.device ≡ size s.device → faults s'.device ≡ next_count (faults s.device) → done s'.device ≡ next_count (done s.device)
       → IsGood contents layers size faults done (ZeroNext number) Fault v (changed v v.origin k s' (map (refused_of (s.number ∷ [])) v.flights))
-  zero_fault found t loud sized faulty counted =
+  zero_fault found there t loud sized faulty counted =
       let flights = map (refused_of (s.number ∷ [])) v.flights in
       let live = front_live (zeroing_front number s found) in
       spoilt_good contents layers size faults done v h (ZeroNext number) Fault (λ a b x. x) (λ xs ys e. e) (λ b. refl) v.origin k s s' within is disk loud sized live (first_some s.copies (zeroing_front number s found)) t
@@ -206,6 +207,7 @@ module _ {B : Type 0} (contents : B → List ℕ) (layers : B → List Layer) (s
         snap = s;
         at = record { within = within; is = is };
         mine = zeroing_number number s found;
+        there = there;
         spoils = record { counts = counts_store v v.origin k s s' flights within is faults refl faulty; was = lived v v.origin k s s' flights within is live; lives = lives_spoiled v v.origin k s s' flights within is t.live };
       })
       (inr (suc k, store_within v v.origin k s s' flights within is done, counts_store v v.origin k s s' flights within is done refl counted))

@@ -139,7 +139,7 @@ module _ {B : Type 0} (contents : B → List ℕ) (layers : B → List Layer) (s
     here = snap_holds vb k (snap_books contents layers s) h.holds sb_in sb_is
 
     -- it is live
-    alive : (kind_of r.request ≡ SnapRead s.number) ⊎ (kind_of r.request ≡ SnapWrite s.number) → s.live ≡ true
+    pub alive : (kind_of r.request ≡ SnapRead s.number) ⊎ (kind_of r.request ≡ SnapWrite s.number) → s.live ≡ true
     alive kind = elim (cases_Bool s.live) [
       | inl live ↦ live
       | inr dead ↦

@@ -2,10 +2,11 @@
 -- What made an event fail, and how many operations it did: which device's counts rose, and which snapshot was spoiled. The
 -- rules are this project's own, after the kernel's admin-guide page on snapshots: a store that fails makes its own
 -- snapshot invalid, and nothing else.
-use Rattle.std.specs.Prelude.{◌≡◌, ◌⊎◌, ℕ, suc, ◌+◌, ◌<◌, Bool, true, false, List, [], ◌∷◌, ◌++◌, Option, Some, None, Any, length, map, slice_index, slice_index_or, slice_set, if◌then◌else◌}
+use Rattle.std.specs.Prelude.{◌≡◌, ◌⊎◌, ℕ, suc, ◌+◌, ◌*◌, ◌<◌, ◌≤◌, Bool, true, false, List, [], ◌∷◌, ◌++◌, Option, Some, None, Any, length, map, slice_index, slice_index_or, slice_set, if◌then◌else◌}
 use Rattle.std.specs.List.{remove}
 use Rattle.sector.specs.Bytes.{next_count}
 use Rattle.cow_format.specs.NextPlace.{LacksArea}
+use Rattle.cow_format.specs.Places.{area_place}
 use Rattle.sector.specs.declared.pair.Pair.{Pair}
 use Rattle.plain_machine.specs.declared.event.Event.{Event}
 use Rattle.plain_machine.specs.declared.event.Event.TheVariants.{CopyRead, CopyWrite, FlushStore, MergeAreaRead, MergeCommit, MergeFlush, MergeGroup, MergeRead, MergeWrite, Publish, ZeroNext, WriteArea, WriteInvalid}
@@ -96,6 +97,15 @@ pub record StoreFails {B : Type 0} (faults : B → ℕ) (number : ℕ) (old new 
   pub mine : snap.number ≡ number
   pub spoils : Spoils faults (suc place) place old new
 
+-- a store that fails while its next area is zeroed, which lies wholly in it, spoils its own snapshot
+pub record ZeroFails {B : Type 0} (faults : B → ℕ) (number : ℕ) (old new : Volumed B) : Type 0 where
+  pub place : ℕ
+  pub snap : Kept B
+  pub at : IsAt place snap old
+  pub mine : snap.number ≡ number
+  pub there : snap.state.chunk * (area_place snap.state.chunk (snap.state.current + 1) + 1) ≤ snap.state.size
+  pub spoils : Spoils faults (suc place) place old new
+
 -- a spoiled snapshot's mark fails, or the flush after it: its store is stale, and nothing is spoiled
 pub record MarkFails {B : Type 0} (faults : B → ℕ) (number : ℕ) (old new : Volumed B) : Type 0 where
   pub place : ℕ
@@ -176,7 +186,7 @@ pub record FillsUp {B : Type 0} (faults : B → ℕ) (number : ℕ) (old new : V
 abbrev pub HasFailed : {B : Type 0} → (B → ℕ) → Event → Volumed B → Volumed B → Type 0
 HasFailed faults (CopyRead number) old new = CopyFails faults (λ place. 0) number old new
 HasFailed faults (CopyWrite number) old new = CopyFails faults suc number old new
-HasFailed faults (ZeroNext number) old new = StoreFails faults number old new
+HasFailed faults (ZeroNext number) old new = ZeroFails faults number old new
 HasFailed faults (WriteArea number) old new = StoreFails faults number old new
 HasFailed faults (WriteInvalid number) old new = MarkFails faults number old new
 HasFailed faults (FlushStore number) old new = StoreFails faults number old new ⊎ MarkFails faults number old new

@@ -12,9 +12,12 @@ pub mod Reaching
 pub mod Leaving
 pub mod Lent
 pub mod Taking
+pub mod Answered
 pub mod Asking
+pub mod Asks
 pub mod Attached
 pub mod Fresh
+pub mod FreshMarks
 pub mod Beginning
 pub mod Finishing
 pub mod Submitting
@@ -46,4 +49,5 @@ pub mod DoesResumeMerge
 pub mod DoesFinishMerge
 pub mod AddedUp
 pub mod DoesAhead
+pub mod Calm
 pub mod Calls

@@ -134,8 +134,8 @@ impl<B: Block> Volume<B> {
         }
     }
 
-    /// Commits the first copies of a snapshot, those that are written, up to the first that is not and up to the end of the
-    /// area. Where that fails, the snapshot is spoiled.
+    /// Commits the first copies of a snapshot, those that are written and flushed, up to the first that is not and up to the end of
+    /// the area. Where that fails, the snapshot is spoiled.
     #[inline(always)]
     pub(crate) fn write_area(&mut self, number: SnapId) -> Result<Outcome, NotDue>
         ensures step { IfOk result (λ outcome. IsStepped B.contents B.layers B.size B.fault_count B.done_count (WriteArea number) outcome self.old self.new) }

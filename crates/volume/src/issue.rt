@@ -27,7 +27,7 @@ use snapshot::Snapshot;
 use snapshot_list::snap_at;
 
 /// The place of the snapshot that a request is of.
-fn holder_at<B: Block>(snaps: &[Snapshot<B>], dev: Dev) -> Option<usize>
+pub(crate) fn holder_at<B: Block>(snaps: &[Snapshot<B>], dev: Dev) -> Option<usize>
     ensures found { IfSome result (λ k. (k < length snaps.now) × ((s : Kept B) → dev ≡ Snap (slice_index_or snaps.now k s).number)) }
     ensures none { IfNone result ((n : ℕ) → dev ≡ Snap n → list_any (λ s. s.number == n) snaps.now ≡ false) }
 {
@@ -38,7 +38,7 @@ fn holder_at<B: Block>(snaps: &[Snapshot<B>], dev: Dev) -> Option<usize>
 }
 
 /// The place, the device and the route of the first request with this number.
-fn going(flights: &[Flight], number: ReqId) -> Option<(usize, Dev, Route)>
+pub(crate) fn going(flights: &[Flight], number: ReqId) -> Option<(usize, Dev, Route)>
     ensures found { IfSome result (λ p. position (λ f. f.number == number) flights.now ≡ Some p.0) }
     ensures dev { IfSome result (λ p. (f : Flight) → (slice_index_or flights.now p.0 f).request.dev ≡ p.1) }
     ensures route { IfSome result (λ p. (f : Flight) → (slice_index_or flights.now p.0 f).route ≡ p.2) }
@@ -141,7 +141,7 @@ impl<B: Block> Volume<B> {
     }
 
     /// Issues a flush of a live snapshot at its store, which is then as FlushStore leaves it: what was written to it counts as
-    /// written, and what was committed may be published. Where it fails, the reply is Io, and nothing else changes.
+    /// flushed, and what was committed may be published. Where it fails, the reply is Io, and nothing else changes.
     fn flush_whole(&mut self, number: ReqId, place: usize) -> Outcome
         requires found { position (λ f. f.number == number) self.old.flights ≡ Some place }
         requires route { (f : Flight) → (slice_index_or self.old.flights place f).route ≡ Whole }

@@ -21,6 +21,8 @@
 #![tactic(auto)]
 
 mod ahead;
+mod ahead_issue;
+mod ahead_reads;
 mod at_once;
 mod at_store;
 mod attach;

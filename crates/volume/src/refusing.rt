@@ -13,7 +13,7 @@ use plain_machine::{Dev, Overflowing, Request, SnapId};
 use sector::{Range, Refusal};
 use snapshot_list::{is_merged_at, pending_count, snap_at, starting_count, starting_count_of};
 
-/// The rest of so many sectors that are divided by a piece. Pieces are powers of two: a mask is several times as fast as a
+/// The remainder of so many sectors, divided by a piece. Pieces are powers of two: a mask is several times as fast as a
 /// division.
 #[inline(always)]
 fn rest_of(sectors: u64, piece: u32) -> u64

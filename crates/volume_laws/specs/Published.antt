@@ -1,6 +1,6 @@
 -- To be believed: `run`'s output, a volume's steps or its attach are said in these words.
--- When a snapshot has a chunk of its own: from the publication on, its reads go to the store, and origin writes need not
--- wait for it. This project's own; the kernel's admin-guide page on snapshots has one step for all of it.
+-- When a snapshot has a chunk of its own: its reads go to the store from the commit on, and from the publication on origin writes need
+-- not wait for it. This project's own; the kernel's admin-guide page on snapshots has one step for all of it.
 use Rattle.std.specs.Prelude.{◌≡◌, ◌≢◌, ◌==◌, ◌⊎◌, ◌&&◌, ◌||◌, not, ℕ, ◌+◌, ◌*◌, ◌/◌, ◌<◌, ◌≤◌, Bool, true, List, Option, None, Any}
 use Rattle.std.specs.List.{All, list_any, list_all}
 use Rattle.std.specs.Option.{is_some, unwrap_or}

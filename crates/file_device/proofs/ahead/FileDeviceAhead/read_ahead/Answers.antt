@@ -1,10 +1,12 @@
-use Rattle.std.proofs.Common.{ℕ, ◌*◌, ◌∙◌, List, ap, subst, refl, take, arith}
+use Rattle.std.proofs.Common.{ℕ, ◌*◌, ◌∙◌, List, ap, subst, refl, take, arith, ◌≡◌, true, false, sym, rules}
 use Rattle.std.proofs.lemmas.List.{places}
 use Rattle.file_calls.specs.Calls.{Call, Read}
 use Rattle.file_calls.specs.Kept.{now_in, MayHold}
 use Rattle.file_device.specs.Layers.{at_first}
 use Rattle.file_device.specs.Laws.{loud_before}
 use Rattle.file_device.proofs.CallsAhead.{read_kept, read_same, read_stop, read_long, read_there}
+use Rattle.file_device.specs.Laws.{unbroken}
+use Rattle.file_device.proofs.ahead.FileDeviceAhead.read_ahead.Goals.{then-self, else-self}
 use Rattle.file_device.proofs.ahead.FileDeviceAhead.read_ahead.Goals as goal
 
 pub invariant_of-self-2-clause-long : goal.invariant_of-self-2-clause-long
@@ -33,3 +35,12 @@ returns-clause-does g c =
       faulty = refl;
       counted = refl;
     }
+
+pub returns-then-self-2-clause-sure : goal.returns-then-self-2-clause-sure
+returns-then-self-2-clause-sure g c = λ all.
+    (let d = c.args.self.now in
+    let none : (d.is_broken ≡ false) × (d.has_failed ≡ false) = unbroken (g.C.FileCalls.history d.file) d.is_broken d.has_failed d.broken d.failed all in
+    elim c.if-self.branch [
+      | then-self w ↦ (let is : d.is_broken ≡ true = search rules in absurd (let no : true ≡ false = sym is ∙ none.0 in cc))
+      | else-self w ↦ (let is : d.has_failed ≡ true = search rules in absurd (let no : true ≡ false = sym is ∙ none.1 in cc))
+    ])

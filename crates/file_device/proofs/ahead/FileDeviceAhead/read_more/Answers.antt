@@ -9,6 +9,7 @@ use Rattle.file_device.specs.Laws.{answers, loud_before}
 use Rattle.file_device.proofs.CallsAhead.{got, read_kept, read_same, read_stop, read_long, piece_read}
 use Rattle.file_device.proofs.CallsMore.{more_still, added, none_has, and_false, passes}
 use Rattle.file_device.proofs.ahead.FileDeviceAhead.read_more.Goals as goal
+use Rattle.file_device.specs.Laws.{unbroken}
 use Rattle.file_device.proofs.ahead.FileDeviceAhead.read_more.Goals.{then-self, else-self}
 
 pub invariant_of-self-then-not-fill-clause-long : goal.invariant_of-self-then-not-fill-clause-long
@@ -108,3 +109,12 @@ returns-clause-beside g c is =
     let whole : d.is_broken ≡ false = elim c.if-self.branch [ then-self w ↦ (let no : d.is_broken ≡ false = search rules in no) | else-self w ↦ (let no : d.is_broken ≡ false = search rules in no) ] in
     let goes_on : c.if-self.self ≡ false = cc in
     passes (now_in (at_first (g.S.Start.first d.number) d.sectors) (g.C.FileCalls.history d.file)) d.sectors c.args.range.first c.args.range.count d.pieces c.make_way.new.self c.add.new.self c.fill.new.self d.is_broken c.if-self.self _ _ whole goes_on c.requires.some d.there c.make_way.ensures.same c.in_ok-add.ensures.done
+
+pub returns-then-self-2-clause-sure : goal.returns-then-self-2-clause-sure
+returns-then-self-2-clause-sure g c = λ all.
+    (let d = c.args.self.now in
+    let none : (d.is_broken ≡ false) × (d.has_failed ≡ false) = unbroken (g.C.FileCalls.history d.file) d.is_broken d.has_failed d.broken d.failed all in
+    elim c.if-self.branch [
+      | then-self w ↦ (let is : d.is_broken ≡ true = search rules in absurd (let no : true ≡ false = sym is ∙ none.0 in cc))
+      | else-self w ↦ (let is : d.has_failed ≡ true = search rules in absurd (let no : true ≡ false = sym is ∙ none.1 in cc))
+    ])

@@ -1,4 +1,4 @@
-use Rattle.std.proofs.Common.{List, true, false, ap, subst, refl}
+use Rattle.std.proofs.Common.{List, true, false, ap, subst, refl, ◌≡◌, ◌∙◌, sym, rules}
 use Rattle.std.specs.Prelude.{is_ok}
 use Rattle.file_calls.specs.Calls.{Call, Sync}
 use Rattle.file_calls.specs.Kept.{now_in, MayHold}
@@ -6,6 +6,8 @@ use Rattle.file_calls.specs.Laws.{sync_adds_none}
 use Rattle.file_device.specs.Layers.{at_first}
 use Rattle.file_device.specs.Laws.{loud_before}
 use Rattle.file_device.proofs.CallsAhead.{sync_kept}
+use Rattle.file_device.specs.Laws.{unbroken}
+use Rattle.file_device.proofs.ahead.FileDeviceAhead.sync_ahead.Goals.{then-self, else-self}
 use Rattle.file_device.proofs.ahead.FileDeviceAhead.sync_ahead.Goals as goal
 
 pub returns-then-is_err-clause-does : goal.returns-then-is_err-clause-does
@@ -35,3 +37,12 @@ returns-clause-does g c =
       faulty = refl;
       counted = refl;
     }
+
+pub returns-then-self-2-clause-sure : goal.returns-then-self-2-clause-sure
+returns-then-self-2-clause-sure g c = λ all.
+    (let d = c.args.self.now in
+    let none : (d.is_broken ≡ false) × (d.has_failed ≡ false) = unbroken (g.C.FileCalls.history d.file) d.is_broken d.has_failed d.broken d.failed all in
+    elim c.if-self.branch [
+      | then-self w ↦ (let is : d.is_broken ≡ true = search rules in absurd (let no : true ≡ false = sym is ∙ none.0 in cc))
+      | else-self w ↦ (let is : d.has_failed ≡ true = search rules in absurd (let no : true ≡ false = sym is ∙ none.1 in cc))
+    ])

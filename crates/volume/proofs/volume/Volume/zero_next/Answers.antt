@@ -161,7 +161,7 @@ invariant_of-self-in-Err g c = record {
       let found : is_zeroing c.args.number s ≡ true = snap_found (is_zeroing c.args.number) k v.snaps.items c.deref.result.now s c.deref.ensures.value is (c.in-Some.ensures.found.1 s) in
       let op = c.in-Err.ensures.operation in
       let t = spoilt_device s c.zero_next.new.self c.spoil-in-Err.new.snap c.zero_next.new.self.device c.in-Err.ensures.kept c.spoil-in-Err.ensures.fields in
-      let good = zero_fault g.B.Block.contents g.B.Block.layers g.B.Block.size g.B.Block.fault_count g.B.Block.done_count _ c.self.invariant.whole c.args.number k s c.spoil-in-Err.new.snap within is found t.0 (ap (λ d. is_loud (g.B.Block.layers d)) t.1 ∙ c.zero_next.ensures.loud) (ap g.B.Block.size t.1 ∙ c.zero_next.ensures.size) (ap g.B.Block.fault_count t.1 ∙ op.faulty) (ap g.B.Block.done_count t.1 ∙ op.counted) in
+      let good = zero_fault g.B.Block.contents g.B.Block.layers g.B.Block.size g.B.Block.fault_count g.B.Block.done_count _ c.self.invariant.whole c.args.number k s c.spoil-in-Err.new.snap within is found c.if-lacks_next_area.ensures t.0 (ap (λ d. is_loud (g.B.Block.layers d)) t.1 ∙ c.zero_next.ensures.loud) (ap g.B.Block.size t.1 ∙ c.zero_next.ensures.size) (ap g.B.Block.fault_count t.1 ∙ op.faulty) (ap g.B.Block.done_count t.1 ∙ op.counted) in
       let flights : c.spoil-in-Err.new.flights.items ≡ map (refused_of (s.number ∷ [])) v.flights.items = c.spoil-in-Err.ensures.flights ∙ ap (λ n. map (refused_of (n ∷ [])) v.flights.items) (ap (λ (x : Kept _). x.number) c.in-Err.ensures.kept) in
       rw flights good.whole;
   lasting =
@@ -223,7 +223,7 @@ returns-in-Err-clause-step g c =
     let found : is_zeroing c.args.number s ≡ true = snap_found (is_zeroing c.args.number) k v.snaps.items c.deref.result.now s c.deref.ensures.value is (c.in-Some.ensures.found.1 s) in
     let op = c.in-Err.ensures.operation in
     let t = spoilt_device s c.zero_next.new.self c.spoil-in-Err.new.snap c.zero_next.new.self.device c.in-Err.ensures.kept c.spoil-in-Err.ensures.fields in
-    let good = zero_fault g.B.Block.contents g.B.Block.layers g.B.Block.size g.B.Block.fault_count g.B.Block.done_count _ c.self.invariant.whole c.args.number k s c.spoil-in-Err.new.snap within is found t.0 (ap (λ d. is_loud (g.B.Block.layers d)) t.1 ∙ c.zero_next.ensures.loud) (ap g.B.Block.size t.1 ∙ c.zero_next.ensures.size) (ap g.B.Block.fault_count t.1 ∙ op.faulty) (ap g.B.Block.done_count t.1 ∙ op.counted) in
+    let good = zero_fault g.B.Block.contents g.B.Block.layers g.B.Block.size g.B.Block.fault_count g.B.Block.done_count _ c.self.invariant.whole c.args.number k s c.spoil-in-Err.new.snap within is found c.if-lacks_next_area.ensures t.0 (ap (λ d. is_loud (g.B.Block.layers d)) t.1 ∙ c.zero_next.ensures.loud) (ap g.B.Block.size t.1 ∙ c.zero_next.ensures.size) (ap g.B.Block.fault_count t.1 ∙ op.faulty) (ap g.B.Block.done_count t.1 ∙ op.counted) in
     let flights : c.spoil-in-Err.new.flights.items ≡ map (refused_of (s.number ∷ [])) v.flights.items = c.spoil-in-Err.ensures.flights ∙ ap (λ n. map (refused_of (n ∷ [])) v.flights.items) (ap (λ (x : Kept _). x.number) c.in-Err.ensures.kept) in
     rw (← c.self.view_is, flights) good.stepped
 
