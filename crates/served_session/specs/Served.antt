@@ -36,7 +36,7 @@ pub record Heard : Type 0 where
   pub before : Option (List ℕ)
   pub after : Option (List ℕ)
 
-pub record IsServed {B : Type 0} (holds : B → ℕ → List ℕ → Type 0) (m : Measures B) (layers : B → List Layer) (failed : B → Bool) (exports : List Export) (start new : Served B) (ended : Result Finish Ended) (heard : Heard) : Type 0 where
+pub record IsServed {B : Type 0} (holds : B → ℕ → List ℕ → Type 0) (m : Measures B) (layers : B → List Layer) (failed unanswered : B → Bool) (exports : List Export) (start new : Served B) (ended : Result Finish Ended) (heard : Heard) : Type 0 where
   pub calls : List Call
   pub says : IfOk ended (λ finish. IfSome heard.client (λ bytes. (said : List ℕ) × IsSession exports finish calls bytes said × Appends heard.before heard.after said))
   -- and behind the client a merge goes on, by steps
@@ -44,4 +44,4 @@ pub record IsServed {B : Type 0} (holds : B → ℕ → List ℕ → Type 0) (m 
   pub steps : AreSteps more
   -- whatever is carried over from the sessions before
   pub loses : (carried : List Flushed) → AreShown (plain_of m.contents layers start.volume) (m.size start.volume.origin) carried
-      → (known : History) × LosesThrough holds m layers failed (known_first m layers carried start.volume) start (more ++ calls) new known
+      → (known : History) × LosesThrough holds m layers failed unanswered (known_first m layers carried start.volume) start (more ++ calls) new known

@@ -15,7 +15,7 @@ use volume_nbd::{VolumeArray, look_at};
 
 /// Does a step. `false` where nothing is left to do.
 fn goes_on<B: Ahead>(array: &mut VolumeArray<B>) -> bool
-    ensures { (told : Told) × does_by B.may_hold B.contents B.layers B.size B.fault_count B.done_count B.failed (Step told) array.old array.new }
+    ensures { (told : Told) × does_by B.may_hold B.contents B.layers B.size B.fault_count B.done_count B.failed B.unanswered (Step told) array.old array.new }
 {
     match array.step() {
         Stepped::Still | Stepped::Ended => false,
@@ -26,7 +26,7 @@ fn goes_on<B: Ahead>(array: &mut VolumeArray<B>) -> bool
 /// Goes on with a merge, where there is one, once the client is gone: for as many steps as a group of an area's pairs takes. So each
 /// session takes a merge further, however short it is.
 fn go_on<B: Ahead>(array: &mut VolumeArray<B>)
-    ensures { StepsTo (does_by B.may_hold B.contents B.layers B.size B.fault_count B.done_count B.failed) array.old array.new }
+    ensures { StepsTo (does_by B.may_hold B.contents B.layers B.size B.fault_count B.done_count B.failed B.unanswered) array.old array.new }
 {
     let Some(chunk) = array.volume().merging_chunk() else {
         return;
@@ -47,7 +47,7 @@ impl<B: Ahead + Drop> ReadyArray<B> {
         reader: &mut R,
         writer: &mut W,
     ) -> (VolumeArray<B>, Result<Finish, Ended>)
-        ensures { IsServed B.may_hold (record { contents = B.contents; durable = B.durable; size = B.size; faults = B.fault_count; done = B.done_count }) B.layers B.failed exports.now self result.0 result.1 (record { client = R.remaining reader.old; before = W.contents writer.old; after = W.contents writer.new }) }
+        ensures { IsServed B.may_hold (record { contents = B.contents; durable = B.durable; size = B.size; faults = B.fault_count; done = B.done_count }) B.layers B.failed B.unanswered exports.now self result.0 result.1 (record { client = R.remaining reader.old; before = W.contents writer.old; after = W.contents writer.new }) }
     {
         let ReadyArray { mut array } = self;
         look_at(array.volume());

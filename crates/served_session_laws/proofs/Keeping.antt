@@ -292,15 +292,15 @@ module _ {B : Type 0} (holds : B → ℕ → List ℕ → Type 0) (m : Measures 
       ap (λ d. writes number d request.op) (is.dev ∙ used) ∙ ap (writes number (used_after start.exports start.chosen calls)) is.op
       ∙ (or_parts (writes number (used_after start.exports start.chosen calls) (op_of work.kind work.count part)) (is_given number start.exports start.chosen calls) none).0
 
-  submit_noted : (number : ℕ) (array : List ℕ) (work : Work) (part : List ℕ) (told : Result ℕ Why) (calls : List Call) (old new : Served B) (before after : History) → old.chosen ≡ used_after start.exports start.chosen calls → Notes m layers failed (Submit work part told) before old new after
+  submit_noted : (unanswered : B → Bool) (number : ℕ) (array : List ℕ) (work : Work) (part : List ℕ) (told : Result ℕ Why) (calls : List Call) (old new : Served B) (before after : History) → old.chosen ≡ used_after start.exports start.chosen calls → Notes holds m layers failed unanswered (Submit work part told) before old new after
       → is_given number start.exports start.chosen (Submit work part told ∷ calls) ≡ false → Among (just number array) before.made → Among (just number array) after.made
-  submit_noted number array work part told calls old new before after used (inl (request, answer, is, says, noted_is)) none among =
-      subst (λ (h : History). Among (just number array) h.made) (sym noted_is) (submit_among number array request answer (plain new.volume) before (free_of number work part told calls old (m.size old.volume.origin) request answer used is says none) among)
-  submit_noted number array work part told calls old new before after used (inr (same, still)) none among = subst (λ (h : History). Among (just number array) h.made) (sym still) among
+  submit_noted unanswered number array work part told calls old new before after used (inl (handed, noted_is)) none among =
+      subst (λ (h : History). Among (just number array) h.made) (sym noted_is) (submit_among number array handed.request handed.answer (plain new.volume) before (free_of number work part told calls old (m.size old.volume.origin) handed.request handed.answer used handed.is handed.told none) among)
+  submit_noted unanswered number array work part told calls old new before after used (inr (same, still)) none among = subst (λ (h : History). Among (just number array) h.made) (sym still) among
 
-  step_noted : (number : ℕ) (array : List ℕ) (told : Told) (old new : Served B) (before after : History) → Notes m layers failed (Step told) before old new after → Among (just number array) before.made → Among (just number array) after.made
-  step_noted number array told old new before after (inl (event, outcome, says, noted_is)) among = subst (λ (h : History). Among (just number array) h.made) (sym noted_is) (stepped_among (just number array) event outcome (plain new.volume) before among)
-  step_noted number array told old new before after (inr (same, back, still)) among = subst (λ (h : History). Among (just number array) h.made) (sym still) among
+  step_noted : (unanswered : B → Bool) (number : ℕ) (array : List ℕ) (told : Told) (old new : Served B) (before after : History) → Notes holds m layers failed unanswered (Step told) before old new after → Among (just number array) before.made → Among (just number array) after.made
+  step_noted unanswered number array told old new before after (inl n) among = subst (λ (h : History). Among (just number array) h.made) (sym n.noted_as) (stepped_among (just number array) n.does.event n.does.outcome (plain new.volume) before among)
+  step_noted unanswered number array told old new before after (inr (same, back, still)) among = subst (λ (h : History). Among (just number array) h.made) (sym still) among
 
   handed_kept : (t : Taken) (work : Work) (part : List ℕ) (told : Result ℕ Why) (calls : List Call) (old new : Served B) → old.chosen ≡ used_after start.exports start.chosen calls → IsHandedOn holds m.contents layers m.size old.chosen work part told old.volume new.volume
       → is_given t.number start.exports start.chosen (Submit work part told ∷ calls) ≡ false → (is_loud_in_all layers old.volume ≡ true → IsKept (plain old.volume) t) → is_loud_in_all layers new.volume ≡ true → IsKept (plain new.volume) t
@@ -308,9 +308,9 @@ module _ {B : Type 0} (holds : B → ℕ → List ℕ → Type 0) (m : Measures 
       let was = sym h.does.loud ∙ loud in
       submit_kept t h.request h.answer old.volume new.volume h.does h.reasons (free_of t.number work part told calls old (m.size old.volume.origin) h.request h.answer used h.is h.told none) was (kept was)
 
-  event_kept : (t : Taken) (told : Told) (old new : Served B) → DoesEvent holds m.contents layers m.size m.faults m.done failed old.chosen told old.volume new.volume
+  event_kept : (unanswered : B → Bool) (t : Taken) (told : Told) (old new : Served B) → DoesEvent holds m.contents layers m.size m.faults m.done failed unanswered old.chosen told old.volume new.volume
       → (is_loud_in_all layers old.volume ≡ true → IsKept (plain old.volume) t) → is_loud_in_all layers new.volume ≡ true → IsKept (plain new.volume) t
-  event_kept t told old new e kept loud = (stepped_keeps e.event e.outcome (plain old.volume) (plain new.volume) (t ∷ []) (e.legal loud) (kept (e.ahead.loud (sym e.step.loud ∙ loud)), tt)).0
+  event_kept unanswered t told old new e kept loud = (stepped_keeps e.event e.outcome (plain old.volume) (plain new.volume) (t ∷ []) (e.legal loud) (kept (e.ahead.loud (sym e.step.loud ∙ loud)), tt)).0
 
   still_kept : (t : Taken) (old new : Served B) → new.volume ≡ old.volume → (is_loud_in_all layers old.volume ≡ true → IsKept (plain old.volume) t) → is_loud_in_all layers new.volume ≡ true → IsKept (plain new.volume) t
   still_kept t old new same kept loud = same_kept old.volume new.volume t same (kept (subst (λ (x : Volumed B). is_loud_in_all layers x ≡ true) same loud))
@@ -321,8 +321,8 @@ module _ {B : Type 0} (holds : B → ℕ → List ℕ → Type 0) (m : Measures 
   chosen_next place true old new calls found same exports used = sym (ap (λ e. chosen_by true e (used_after start.exports start.chosen calls)) (sym (found refl ∙ ap (λ es. slice_get es place) exports)))
   chosen_next place false old new calls found same exports used = ap (λ (x : Served B). x.chosen) (same refl) ∙ used
 
-  pub kept_call : (call : Call) (calls : List Call) (old new : Served B) (before after : History) → does_by holds m.contents layers m.size m.faults m.done failed call old new → Notes m layers failed call before old new after → IsKeptBy calls old before → IsKeptBy (call ∷ calls) new after
-  kept_call (Choose place told) calls old new before after (may, found, same, becomes) notes k = record {
+  pub kept_call : (unanswered : B → Bool) (call : Call) (calls : List Call) (old new : Served B) (before after : History) → does_by holds m.contents layers m.size m.faults m.done failed unanswered call old new → Notes holds m layers failed unanswered call before old new after → IsKeptBy calls old before → IsKeptBy (call ∷ calls) new after
+  kept_call unanswered (Choose place told) calls old new before after (may, found, same, becomes) notes k = record {
     exports = ap (λ (x : Served B). x.exports) becomes ∙ k.exports;
     used = chosen_next place told old new calls found same k.exports k.used;
     each = λ number array live none. (
@@ -330,27 +330,27 @@ module _ {B : Type 0} (holds : B → ℕ → List ℕ → Type 0) (m : Measures 
       still_kept (record { number = number; array = array }) old new (ap (λ (x : Served B). x.volume) becomes) (k.each number array live none).1,
     );
   }
-  kept_call (Submit work part told) calls old new before after (inl handed, becomes) notes k = record {
+  kept_call unanswered (Submit work part told) calls old new before after (inl handed, becomes) notes k = record {
     exports = ap (λ (x : Served B). x.exports) becomes ∙ k.exports;
     used = ap (λ (x : Served B). x.chosen) becomes ∙ k.used;
     each = λ number array live none.
         (let was = k.each number array live (free_before number work part told calls none) in
-        (submit_noted number array work part told calls old new before after k.used notes none was.0, handed_kept (record { number = number; array = array }) work part told calls old new k.used handed none was.1));
+        (submit_noted unanswered number array work part told calls old new before after k.used notes none was.0, handed_kept (record { number = number; array = array }) work part told calls old new k.used handed none was.1));
   }
-  kept_call (Submit work part told) calls old new before after (inr away, becomes) notes k = record {
+  kept_call unanswered (Submit work part told) calls old new before after (inr away, becomes) notes k = record {
     exports = ap (λ (x : Served B). x.exports) becomes ∙ k.exports;
     used = ap (λ (x : Served B). x.chosen) becomes ∙ k.used;
     each = λ number array live none.
         (let was = k.each number array live (free_before number work part told calls none) in
-        (submit_noted number array work part told calls old new before after k.used notes none was.0, still_kept (record { number = number; array = array }) old new away.0 was.1));
+        (submit_noted unanswered number array work part told calls old new before after k.used notes none was.0, still_kept (record { number = number; array = array }) old new away.0 was.1));
   }
-  kept_call (Step told) calls old new before after (inl event, still, ended, becomes) notes k = record {
+  kept_call unanswered (Step told) calls old new before after (inl event, still, ended, stopped, becomes) notes k = record {
     exports = ap (λ (x : Served B). x.exports) becomes ∙ k.exports;
     used = ap (λ (x : Served B). x.chosen) becomes ∙ k.used;
-    each = λ number array live none. (let was = k.each number array live none in (step_noted number array told old new before after notes was.0, event_kept (record { number = number; array = array }) told old new event was.1));
+    each = λ number array live none. (let was = k.each number array live none in (step_noted unanswered number array told old new before after notes was.0, event_kept unanswered (record { number = number; array = array }) told old new event was.1));
   }
-  kept_call (Step told) calls old new before after (inr none_done, still, ended, becomes) notes k = record {
+  kept_call unanswered (Step told) calls old new before after (inr none_done, still, ended, stopped, becomes) notes k = record {
     exports = ap (λ (x : Served B). x.exports) becomes ∙ k.exports;
     used = ap (λ (x : Served B). x.chosen) becomes ∙ k.used;
-    each = λ number array live none. (let was = k.each number array live none in (step_noted number array told old new before after notes was.0, still_kept (record { number = number; array = array }) old new none_done.0 was.1));
+    each = λ number array live none. (let was = k.each number array live none in (step_noted unanswered number array told old new before after notes was.0, still_kept (record { number = number; array = array }) old new none_done.0 was.1));
   }

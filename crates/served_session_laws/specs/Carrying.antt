@@ -4,7 +4,7 @@
 use Rattle.std.specs.Prelude.{◌≡◌, ℕ, ◌<◌, Bool, true, List, [], ◌∷◌, filter, map, Option, Some, None}
 use Rattle.sector.specs.Bytes.{sector_at}
 use Rattle.device.specs.Layers.{Layer}
-use Rattle.crash_laws.specs.Stop.{MayLeave}
+use Rattle.crash_laws.specs.Stop.{MayLeave, Within}
 use Rattle.plain_machine.specs.Plain.{Plain}
 use Rattle.snapshot.specs.Kept.{Kept}
 use Rattle.merge.specs.Due.{is_finished_of}
@@ -39,12 +39,15 @@ pub record IsOpenedOver {B : Type 0} (holds : B → ℕ → List ℕ → Type 0)
   pub loads : AreLoaded holds m layers failed numbers old new
   pub kept : is_loud_in_all layers new ≡ true
 
--- Whatever a stop leaves of all files together, the next session shows what was made last, or what a write since gives: of the origin,
--- where no merge is left to do; of each live snapshot; and of the origin, where the snapshot is merged further that was.
-pub record Carries {B : Type 0} (holds : B → ℕ → List ℕ → Type 0) (m : Measures B) (layers : B → List Layer) (failed : B → Bool) (made : List Flushed) (v : Volumed B) : Type 0 where
-  pub origin : ((g : Merging B) → v.merge ≡ Some g → is_finished_of g ≡ true) → (o : List ℕ) → MayLeave (holds v.origin) (m.size v.origin) o
-      → (new : Volumed B) → IsOpenedOver holds m layers failed o new → AreShown (plain_of m.contents layers new) (m.size v.origin) (of_origin made)
-  pub snaps : (place : ℕ) (s : Kept B) → IsAt place s v → s.live ≡ true → (o c : List ℕ) → MayLeave (holds v.origin) (m.size v.origin) o → MayLeave (holds s.device) (m.size s.device) c
-      → (number : ℕ) (new : Volumed B) → IsLoadedFrom holds m layers failed o c number new → AreShown (plain_of m.contents layers new) (m.size v.origin) (of_snap s.number number made)
-  pub merging : (g : Merging B) → v.merge ≡ Some g → (o c : List ℕ) → MayLeave (holds v.origin) (m.size v.origin) o → MayLeave (holds g.device) (m.size g.device) c
-      → (new : Volumed B) → IsMergedFrom holds m layers failed o c new → AreShown (plain_of m.contents layers new) (m.size v.origin) (of_origin made)
+-- Whatever a stop between a moment and another leaves of all files together, the next session shows what was made last, or what a write
+-- since gives: of the origin, where no merge is left to do; of each live snapshot; and of the origin, where the snapshot is merged further
+-- that was. The next session's devices may be of another type N: it has files with records of their own.
+pub record Carries {B N : Type 0} (holds : B → ℕ → List ℕ → Type 0) (size : B → ℕ) (next_holds : N → ℕ → List ℕ → Type 0) (m : Measures N) (layers : N → List Layer) (failed : N → Bool) (made : List Flushed) (old new : Volumed B) : Type 0 where
+  pub origin : ((g : Merging B) → old.merge ≡ Some g → is_finished_of g ≡ true) → (o : List ℕ) → MayLeave (Within (holds old.origin) (holds new.origin)) (size old.origin) o
+      → (next : Volumed N) → IsOpenedOver next_holds m layers failed o next → AreShown (plain_of m.contents layers next) (size old.origin) (of_origin made)
+  pub snaps : (place : ℕ) (s t : Kept B) → IsAt place s old → IsAt place t new → s.live ≡ true
+      → (o c : List ℕ) → MayLeave (Within (holds old.origin) (holds new.origin)) (size old.origin) o → MayLeave (Within (holds s.device) (holds t.device)) (size s.device) c
+      → (number : ℕ) (next : Volumed N) → IsLoadedFrom next_holds m layers failed o c number next → AreShown (plain_of m.contents layers next) (size old.origin) (of_snap s.number number made)
+  pub merging : (g h : Merging B) → old.merge ≡ Some g → new.merge ≡ Some h
+      → (o c : List ℕ) → MayLeave (Within (holds old.origin) (holds new.origin)) (size old.origin) o → MayLeave (Within (holds g.device) (holds h.device)) (size g.device) c
+      → (next : Volumed N) → IsMergedFrom next_holds m layers failed o c next → AreShown (plain_of m.contents layers next) (size old.origin) (of_origin made)

@@ -3,49 +3,46 @@
 -- of all files together, at any moment, shows it. holds: what a file may hold in a sector after a stop. This project's own.
 use Rattle.std.specs.Prelude.{◌≡◌, ◌⊎◌, ◌++◌, ℕ, Bool, true, false, List, [], ◌∷◌, map, Option, None, Some, Result, Ok}
 use Rattle.std.specs.List.{All}
-use Rattle.sector.specs.declared.refusal.Refusal.{Refusal}
 use Rattle.device.specs.Layers.{Layer, is_loud}
+use Rattle.crash_laws.specs.Again.{IsRefusedAgain}
 use Rattle.crash_laws.specs.Firm.{IsFirm}
+use Rattle.crash_laws.specs.Stop.{MayLeave}
 use Rattle.plain_machine.specs.Plain.{Plain}
-use Rattle.plain_machine.specs.declared.event.Event.{Event}
-use Rattle.plain_machine.specs.declared.event.Outcome.{Outcome}
-use Rattle.plain_machine.specs.declared.request.Request.{Request}
 use Rattle.snapshot.specs.Kept.{Kept}
 use Rattle.merge.specs.Merging.{Merging}
-use Rattle.volume.specs.DoesAhead.{DoesAhead}
+use Rattle.volume.specs.Causes.{IsAt}
 use Rattle.volume.specs.Layering.{Measures}
 use Rattle.volume.specs.Volumed.{Volumed, is_loud_in_all, plain_of}
 use Rattle.volume_lifetime.specs.declared.deed.Deed.TheVariants.{Submit as Submits, Step as Steps}
 use Rattle.volume_lifetime.specs.declared.deed.Done.TheVariants.{Submitted, Stepped}
 use Rattle.volume_lifetime.specs.Flushed.{Flushed, History, LosesNothing, noted, with_bytes}
 use Rattle.nbd_backend.specs.Calls.{Call, Choose, Submit, Step}
-use Rattle.volume_nbd.specs.Answers.{stepped_as, taken_as}
+use Rattle.nbd_backend.specs.declared.array.Stepped.{Stepped as Told}
 use Rattle.volume_nbd.specs.Calls.{does_by}
-use Rattle.volume_nbd.specs.Faults.{is_failed_at}
 use Rattle.volume_nbd.specs.Served.{Served}
-use Rattle.volume_nbd.specs.Steps.{is_back, is_idle}
-use Rattle.volume_nbd.specs.Submits.{IsOf}
+use Rattle.volume_nbd.specs.Steps.{DoesEvent, is_back}
+use Rattle.volume_nbd.specs.Submits.{IsHandedOn}
 use Rattle.served_session_laws.specs.Carrying.{Carries}
 use Rattle.served_session_laws.specs.Keeping.{KeepsNow}
 
--- What is noted of a call: a piece that is taken in is a request of the volume, and a step is an event of it, or none.
-abbrev pub Notes : {B : Type 0} → Measures B → (B → List Layer) → (B → Bool) → Call → History → Served B → Served B → History → Type 0
-Notes {B} m layers failed (Choose place told) before old new after = after ≡ before
-Notes {B} m layers failed (Submit work part told) before old new after =
-    ((request : Request) × (answer : Result ℕ Refusal) × IsOf old.chosen work part (m.size old.volume.origin) request × (told ≡ taken_as answer) × (after ≡ noted {B = B} (Submits request) (Submitted answer) (plain_of m.contents layers new.volume) before))
-    ⊎ ((new.volume ≡ old.volume) × (after ≡ before))
-Notes {B} m layers failed (Step told) before old new after =
-    ((event : Event) × (outcome : Outcome) × (told ≡ stepped_as (is_idle old.volume event) (is_failed_at failed old.chosen new.volume) outcome) × (after ≡ noted {B = B} (Steps event) (Stepped (Ok outcome)) (plain_of m.contents layers new.volume) before))
-    ⊎ ((new.volume ≡ old.volume) × (is_back told ≡ false) × (after ≡ before))
+-- A step that does an event: just this event is noted with its outcome. A stop may come within it. Reads and syncs ahead of the event
+-- leave no more that a stop may show than there was before; then comes the one write, or sync, of the event. Nothing is lost while the
+-- files kept all that they answered, and whatever is left is what the next session shows.
+pub record DoesNoted {B : Type 0} (holds : B → ℕ → List ℕ → Type 0) (m : Measures B) (layers : B → List Layer) (failed unanswered : B → Bool) (told : Told) (before : History) (old new : Served B) (after : History) : Type 0 where
+  pub does : DoesEvent holds m.contents layers m.size m.faults m.done failed unanswered old.chosen told old.volume new.volume
+  pub loses : is_loud_in_all layers new.volume ≡ true → LosesNothing holds m.size before.made does.between new.volume
+  pub carries : is_loud_in_all layers new.volume ≡ true → Carries holds m.size holds m layers failed before.made does.between new.volume
+  pub noted_as : after ≡ noted {B = B} (Steps does.event) (Stepped (Ok does.outcome)) (plain_of m.contents layers new.volume) before
 
--- A stop within a call. Only a step asks files for anything: reads and syncs ahead of its event, which leave no more that a stop may
--- show than there was before, and then the one write, or sync, of the event. Nothing is lost while the files kept all that they answered.
-abbrev pub LosesInCall : {B : Type 0} → (B → ℕ → List ℕ → Type 0) → Measures B → (B → List Layer) → Call → History → Served B → Served B → Type 0
-LosesInCall holds m layers (Choose place told) before old new = Unit {0}
-LosesInCall holds m layers (Submit work part told) before old new = Unit {0}
-LosesInCall holds m layers (Step told) before old new =
-    ((between : Volumed _) × DoesAhead holds m.contents layers m.size m.faults m.done old.volume between × (is_loud_in_all layers new.volume ≡ true → LosesNothing holds m.size before.made between new.volume))
-    ⊎ (new.volume ≡ old.volume)
+-- What is noted of a call: a piece that is taken in is just the request that was handed on, and a step its event, or none. Only a step asks
+-- files for anything.
+abbrev pub Notes : {B : Type 0} → (B → ℕ → List ℕ → Type 0) → Measures B → (B → List Layer) → (B → Bool) → (B → Bool) → Call → History → Served B → Served B → History → Type 0
+Notes {B} holds m layers failed unanswered (Choose place told) before old new after = after ≡ before
+Notes {B} holds m layers failed unanswered (Submit work part told) before old new after =
+    ((h : IsHandedOn holds m.contents layers m.size old.chosen work part told old.volume new.volume) × (after ≡ noted {B = B} (Submits h.request) (Submitted h.answer) (plain_of m.contents layers new.volume) before))
+    ⊎ ((new.volume ≡ old.volume) × (after ≡ before))
+Notes {B} holds m layers failed unanswered (Step told) before old new after =
+    DoesNoted holds m layers failed unanswered told before old new after ⊎ ((new.volume ≡ old.volume) × (is_back told ≡ false) × (after ≡ before))
 
 -- Nor is anything by a stop before it, or behind all calls.
 abbrev pub LosesNow : {B : Type 0} → (B → ℕ → List ℕ → Type 0) → Measures B → (B → List Layer) → History → Served B → Type 0
@@ -53,15 +50,22 @@ LosesNow holds m layers h v = is_loud_in_all layers v.volume ≡ true → LosesN
 
 -- And whatever it leaves is what the next session shows.
 abbrev pub CarriesNow : {B : Type 0} → (B → ℕ → List ℕ → Type 0) → Measures B → (B → List Layer) → (B → Bool) → History → Served B → Type 0
-CarriesNow holds m layers failed h v = is_loud_in_all layers v.volume ≡ true → Carries holds m layers failed h.made v.volume
+CarriesNow holds m layers failed h v = is_loud_in_all layers v.volume ≡ true → Carries holds m.size holds m layers failed h.made v.volume v.volume
+
+-- A lost snapshot whose mark was written is refused by the next load, whatever a stop leaves.
+abbrev pub RefusesLost : {B : Type 0} → (B → ℕ → List ℕ → Type 0) → Measures B → (B → List Layer) → Served B → Type 0
+RefusesLost holds m layers v =
+    is_loud_in_all layers v.volume ≡ true → (place : ℕ) (s : Kept _) → IsAt place s v.volume → s.live ≡ false → s.untried ≡ false → s.stale ≡ false
+    → (c : List ℕ) → MayLeave (holds s.device) (m.size s.device) c → IsRefusedAgain c
 
 -- Calls one after another, the last of which stands first: from what is known to last before all of them to what is known behind them.
--- Behind each call nothing is lost, the next session shows it, and what the calls so far wrote nothing of is kept.
-abbrev pub LosesThrough : {B : Type 0} → (B → ℕ → List ℕ → Type 0) → Measures B → (B → List Layer) → (B → Bool) → History → Served B → List Call → Served B → History → Type 0
-LosesThrough holds m layers failed first start [] new after = (new ≡ start) × (after ≡ first) × LosesNow holds m layers after new × CarriesNow holds m layers failed after new × KeepsNow holds m layers failed start [] new
-LosesThrough {B} holds m layers failed first start (call ∷ calls) new after =
-    (old : Served B) × (before : History) × LosesThrough holds m layers failed first start calls old before × does_by holds m.contents layers m.size m.faults m.done failed call old new
-    × LosesInCall holds m layers call before old new × Notes m layers failed call before old new after × LosesNow holds m layers after new × CarriesNow holds m layers failed after new × KeepsNow holds m layers failed start (call ∷ calls) new
+-- Behind each call nothing is lost, the next session shows it, what the calls so far wrote nothing of is kept, and what is lost is refused.
+abbrev pub LosesThrough : {B : Type 0} → (B → ℕ → List ℕ → Type 0) → Measures B → (B → List Layer) → (B → Bool) → (B → Bool) → History → Served B → List Call → Served B → History → Type 0
+LosesThrough holds m layers failed unanswered first start [] new after = (new ≡ start) × (after ≡ first) × LosesNow holds m layers after new × CarriesNow holds m layers failed after new × KeepsNow holds m layers failed start [] new × RefusesLost holds m layers new
+LosesThrough {B} holds m layers failed unanswered first start (call ∷ calls) new after =
+    (old : Served B) × (before : History) × LosesThrough holds m layers failed unanswered first start calls old before × does_by holds m.contents layers m.size m.faults m.done failed unanswered call old new
+    × Notes holds m layers failed unanswered call before old new after × LosesNow holds m layers after new × CarriesNow holds m layers failed after new × KeepsNow holds m layers failed start (call ∷ calls) new
+    × RefusesLost holds m layers new
 
 -- A volume as it is opened: of each file that kept all that it answered, a stop leaves nothing but what is there.
 pub record AreFirm {B : Type 0} (holds : B → ℕ → List ℕ → Type 0) (m : Measures B) (layers : B → List Layer) (v : Volumed B) : Type 0 where

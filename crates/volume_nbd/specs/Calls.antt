@@ -11,17 +11,18 @@ use Rattle.volume_nbd.specs.Submits.{DoesTakeIn}
 
 -- An export is chosen where there is one and nothing of another is in flight. A piece is asked of the volume for the chosen device. A step
 -- is one event of the volume, or none: it is still where none is left, and ended where a file failed, a store could not be marked or memory
--- was refused.
-abbrev pub does_by : {B : Type 0} → (B → ℕ → List ℕ → Type 0) → (B → List ℕ) → (B → List Layer) → (B → ℕ) → (B → ℕ) → (B → ℕ) → (B → Bool) → Call → Served B → Served B → Type 0
-does_by holds contents layers size faults done failed (Choose place told) old new =
+-- was refused. Once the origin's file failed, or a store could not be marked, nothing more is done.
+abbrev pub does_by : {B : Type 0} → (B → ℕ → List ℕ → Type 0) → (B → List ℕ) → (B → List Layer) → (B → ℕ) → (B → ℕ) → (B → ℕ) → (B → Bool) → (B → Bool) → Call → Served B → Served B → Type 0
+does_by holds contents layers size faults done failed unanswered (Choose place told) old new =
     (told ≡ (nat_lt place (length old.exports) && (length old.volume.flights == 0)))
     × (told ≡ true → Some new.chosen ≡ slice_get old.exports place)
     × (told ≡ false → new ≡ old)
     × (new ≡ record old { chosen = new.chosen })
-does_by holds contents layers size faults done failed (Submit work part told) old new =
+does_by holds contents layers size faults done failed unanswered (Submit work part told) old new =
     DoesTakeIn holds contents layers size old.chosen work part told old.volume new.volume × (new ≡ record old { volume = new.volume })
-does_by holds contents layers size faults done failed (Step told) old new =
-    DoesServedStep holds contents layers size faults done failed old.chosen told old.volume new.volume
+does_by holds contents layers size faults done failed unanswered (Step told) old new =
+    DoesServedStep holds contents layers size faults done failed unanswered old.chosen told old.volume new.volume
     × (told ≡ Still → next_of contents layers old.volume ≡ None)
     × (told ≡ Ended → is_stopped failed old.volume ≡ false → new.starved ≡ true)
+    × (is_stopped failed old.volume ≡ true → (told ≡ Ended) × (new ≡ old))
     × (new ≡ record old { volume = new.volume; starved = new.starved })

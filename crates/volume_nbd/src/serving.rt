@@ -34,11 +34,11 @@ impl<B: Ahead> VolumeArray<B> {
 }
 
 impl<B: Ahead> Array for VolumeArray<B> {
-    ghost does = { does_by B.may_hold B.contents B.layers B.size B.fault_count B.done_count B.failed };
+    ghost does = { does_by B.may_hold B.contents B.layers B.size B.fault_count B.done_count B.failed B.unanswered };
 
     /// The client uses the export at this place, as `choose_at` says.
     fn choose(&mut self, place: usize) -> bool
-        ensures { does_by B.may_hold B.contents B.layers B.size B.fault_count B.done_count B.failed (Choose place result) self.old self.new }
+        ensures { does_by B.may_hold B.contents B.layers B.size B.fault_count B.done_count B.failed B.unanswered (Choose place result) self.old self.new }
     {
         self.choose_at(place)
     }
@@ -55,14 +55,14 @@ impl<B: Ahead> Array for VolumeArray<B> {
     /// Takes a piece in, as `take_in` does.
     fn submit(&mut self, alloc: Global, work: Work, part: &[u8]) -> Result<u64, Refused>
         requires { work.kind ≡ AsksWrite → length part.now ≡ 512 * work.count }
-        ensures { does_by B.may_hold B.contents B.layers B.size B.fault_count B.done_count B.failed (Submit work part.now result) self.old self.new }
+        ensures { does_by B.may_hold B.contents B.layers B.size B.fault_count B.done_count B.failed B.unanswered (Submit work part.now result) self.old self.new }
     {
         self.take_in(alloc, work, part)
     }
 
     /// Does an event or none, as `go_on` does.
     fn step(&mut self) -> Stepped
-        ensures { does_by B.may_hold B.contents B.layers B.size B.fault_count B.done_count B.failed (Step result) self.old self.new }
+        ensures { does_by B.may_hold B.contents B.layers B.size B.fault_count B.done_count B.failed B.unanswered (Step result) self.old self.new }
     {
         self.go_on()
     }

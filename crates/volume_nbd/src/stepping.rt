@@ -31,7 +31,7 @@ fn is_slow(batch: Batch) -> bool {
 impl<B: Ahead> VolumeArray<B> {
     /// Does an event ahead and then the event, where it is due, and tells what came of it. `None` where it is not.
     fn do_event(&mut self, event: Event) -> Option<Stepped>
-        ensures some { IfSome result (λ stepped. DoesEvent B.may_hold B.contents B.layers B.size B.fault_count B.done_count B.failed self.old.chosen stepped self.old.volume self.new.volume) }
+        ensures some { IfSome result (λ stepped. DoesEvent B.may_hold B.contents B.layers B.size B.fault_count B.done_count B.failed B.unanswered self.old.chosen stepped self.old.volume self.new.volume) }
         ensures none { IfNone result (self.new ≡ self.old) }
         ensures kept { ChangesVolume self.old self.new }
     {
@@ -63,7 +63,7 @@ impl<B: Ahead> VolumeArray<B> {
 
     /// Goes to the next batch, or to the next round.
     fn turn(&mut self) -> Option<Stepped>
-        ensures some { IfSome result (λ stepped. DoesServedStep B.may_hold B.contents B.layers B.size B.fault_count B.done_count B.failed self.old.chosen stepped self.old.volume self.new.volume) }
+        ensures some { IfSome result (λ stepped. DoesServedStep B.may_hold B.contents B.layers B.size B.fault_count B.done_count B.failed B.unanswered self.old.chosen stepped self.old.volume self.new.volume) }
         ensures still { result ≡ Some Still → next_of B.contents B.layers self.old.volume ≡ None }
         ensures ended { result ≡ Some Ended → IsStarved self.new }
         ensures none { IsIdleIfNone result self.old self.new }
@@ -83,7 +83,7 @@ impl<B: Ahead> VolumeArray<B> {
 
     /// The end of a round. Where the round did no event, the one that is due first is done; what is to be said is said before a merge's.
     fn end_round(&mut self) -> Stepped
-        ensures does { DoesServedStep B.may_hold B.contents B.layers B.size B.fault_count B.done_count B.failed self.old.chosen result self.old.volume self.new.volume }
+        ensures does { DoesServedStep B.may_hold B.contents B.layers B.size B.fault_count B.done_count B.failed B.unanswered self.old.chosen result self.old.volume self.new.volume }
         ensures still { result ≡ Still → next_of B.contents B.layers self.old.volume ≡ None }
         ensures ended { result ≡ Ended → IsStarved self.new }
         ensures kept { ChangesOrStarves self.old self.new }
@@ -105,7 +105,7 @@ impl<B: Ahead> VolumeArray<B> {
 
     /// Does the event that is due first: a merge's where no other is.
     fn do_first(&mut self) -> Stepped
-        ensures does { DoesServedStep B.may_hold B.contents B.layers B.size B.fault_count B.done_count B.failed self.old.chosen result self.old.volume self.new.volume }
+        ensures does { DoesServedStep B.may_hold B.contents B.layers B.size B.fault_count B.done_count B.failed B.unanswered self.old.chosen result self.old.volume self.new.volume }
         ensures still { result ≡ Still → next_of B.contents B.layers self.old.volume ≡ None }
         ensures goes { result ≢ Ended }
         ensures kept { ChangesVolume self.old self.new }
@@ -123,7 +123,7 @@ impl<B: Ahead> VolumeArray<B> {
 
     /// Looks at the next event of the batch, and does it where it is due; or goes on to the next batch.
     fn look(&mut self) -> Option<Stepped>
-        ensures some { IfSome result (λ stepped. DoesServedStep B.may_hold B.contents B.layers B.size B.fault_count B.done_count B.failed self.old.chosen stepped self.old.volume self.new.volume) }
+        ensures some { IfSome result (λ stepped. DoesServedStep B.may_hold B.contents B.layers B.size B.fault_count B.done_count B.failed B.unanswered self.old.chosen stepped self.old.volume self.new.volume) }
         ensures still { result ≡ Some Still → next_of B.contents B.layers self.old.volume ≡ None }
         ensures ended { result ≡ Some Ended → IsStarved self.new }
         ensures none { IsIdleIfNone result self.old self.new }
@@ -141,7 +141,7 @@ impl<B: Ahead> VolumeArray<B> {
     /// Does an event that is due, or goes on in the round, and tells what came of it. Nothing is done, and `Ended` is told, once the
     /// origin's file failed, a store could not be marked, or memory was refused.
     pub fn go_on(&mut self) -> Stepped
-        ensures does { DoesServedStep B.may_hold B.contents B.layers B.size B.fault_count B.done_count B.failed self.old.chosen result self.old.volume self.new.volume }
+        ensures does { DoesServedStep B.may_hold B.contents B.layers B.size B.fault_count B.done_count B.failed B.unanswered self.old.chosen result self.old.volume self.new.volume }
         ensures stopped { is_stopped_by B.failed self.old.volume ≡ true → (result ≡ Ended) × (self.new ≡ self.old) }
         ensures starved { IsStarved self.old → (result ≡ Ended) × (self.new ≡ self.old) }
         ensures ended { result ≡ Ended → is_stopped_by B.failed self.old.volume ≡ false → IsStarved self.new }
