@@ -1,0 +1,5 @@
+pub mod Kinds
+pub mod Naming
+pub mod Creating
+pub mod Reasons
+pub mod Told
